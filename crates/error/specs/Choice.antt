@@ -1,0 +1,7 @@
+-- A choice by a test.
+use mathlib.Core.Bool.{Bool, true, false}
+
+infixr 10 if_then_else_
+abbrev pub if_then_else_ : {A : Type 0} → Bool → A → A → A
+if true then a else b = a
+if false then a else b = b

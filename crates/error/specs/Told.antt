@@ -1,0 +1,25 @@
+-- "What a caller is told": the table of document 01.
+use Prim.Native.Nat.{ℕ}
+use mathlib.Core.List.{List, [], _∷_}
+use Rattle.error.specs.declared.Refusal.{Refusal}
+use Rattle.error.specs.declared.Refusal.the-variants.{Time, Limit, Storage, Unsound, Full}
+
+-- The number of the table, 0 where the call was not refused, and the values returned with it.
+pub record Told : Type 0 where
+  pub number : ℕ
+  pub values : List ℕ
+
+abbrev pub tell : ℕ → List ℕ → Told
+tell n vs = record { number = n; values = vs }
+
+-- "Cause" and "Number"
+abbrev pub numberOf : Refusal → ℕ
+numberOf Time = 1
+numberOf Limit = 2
+numberOf Storage = 3
+numberOf Unsound = 4
+numberOf Full = 5
+
+-- rows 1 to 5 return the number alone
+abbrev pub refused : Refusal → Told
+refused r = tell (numberOf r) []

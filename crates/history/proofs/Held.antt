@@ -1,0 +1,106 @@
+-- What a change makes of a sound list: every place is the rule's list, padded, and the list is sound again. Assumes nothing.
+--     outcome-held, outcome-sound   Ratio
+--     time-held, time-full, time-sound, evict-held, evict-sound   Windowed
+--     clear-held, clear-sound       any kind
+use mathlib.Core.Path.{_≡_, refl, sym, ap, _∙_}
+use mathlib.Core.Bool.{Bool, true, false, _&&_}
+use mathlib.Core.List.{List, [], _∷_, _++_}
+use Prim.Native.Nat.{ℕ, _+_, _-_, _≤_, _<_}
+use native.Mathlib.Omega.{arith}
+use lib.ListN.{length, drop, length-append, length-drop}
+use lib.Seq.{length-take-le}
+use lib.Dec.{ltb, leb, eqb}
+use borrow.Author.Tests.{lt-ltb, le-leb, leb-false, eq-eqb}
+use Rattle.error.specs.Told.{tell}
+use Rattle.error.specs.declared.Refusal.the-variants.{Full}
+use Rattle.history.specs.declared.Items.{Items}
+use Rattle.history.specs.declared.Items.the-variants.{Nothing, Outcomes, Times}
+use Rattle.history.specs.Items.{view, padded, allBelow, fits, known, soundList, newest, evicted}
+use Rattle.history.specs.Change.{Left, left, become, refuse, onList, full, pushedOutcome, pushedTime, evictedTimes, cleared}
+use Rattle.history.proofs.Laws.{below-append, below-drop}
+use Rattle.history.proofs.Laid.{laid-padded}
+use Rattle.history.proofs.Sound.{Sound, sound→, →sound, fits-outcomes, outcomes-fit}
+use Rattle.history.proofs.Change.{evicted-le, evicted-more}
+
+pub newest-le : (w : ℕ) (ys : List ℕ) → length (newest w ys) ≤ w
+newest-le w ys = simp length-drop (omega arith)
+
+-- the list xs, in storage of its own
+abbrev pub held : List ℕ → Left
+held xs = left (tell 0 (length xs ∷ [])) (padded xs)
+
+module _ (items : Items) (n : ℕ) (s : List ℕ) (ok : soundList items n s ≡ true) where
+  fine : (kind : Items) (x : Left) → fits kind n ≡ true → onList kind n s x ≡ x
+  fine kind x f = simp (eq-eqb _ _ (sound→ items n s ok .places), f)
+
+  becomes : (xs : List ℕ) → length xs ≤ 4096 → become xs n s ≡ held xs
+  becomes xs h =
+      let z = sound→ items n s ok in
+      ap (λ (t : List ℕ). left (tell 0 (length xs ∷ [])) t) (laid-padded n xs s (z .le) (z .places) h (z .isPadded))
+
+  pub clear-held : cleared n s ≡ held []
+  unfolding cleared
+  clear-held = fine Times (become [] n s) (le-leb n 4096 (sound→ items n s ok .le)) ∙ becomes [] (omega arith)
+
+known-nil : (items : Items) → known items [] ≡ true
+unfolding allBelow
+known-nil Nothing = refl
+known-nil (Outcomes w) = refl
+known-nil Times = refl
+
+pub clear-sound : (items : Items) → fits items 0 ≡ true → soundList items 0 (padded []) ≡ true
+clear-sound items f = →sound items [] f (known-nil items)
+
+-- ---- Ratio
+module _ (w o n : ℕ) (s : List ℕ) (ok : soundList (Outcomes w) n s ≡ true) where
+  abbrev pub outcomes : List ℕ
+  outcomes = newest w (view n s ++ o ∷ [])
+
+  fit : (1 ≤ w) × (w ≤ 4096) × (n ≤ w)
+  fit = fits-outcomes w n (sound→ (Outcomes w) n s ok .lengthFits)
+
+  pub outcome-held : pushedOutcome w o n s ≡ held outcomes
+  unfolding pushedOutcome
+  outcome-held =
+      fine (Outcomes w) n s ok (Outcomes w) (become outcomes n s) (sound→ (Outcomes w) n s ok .lengthFits)
+      ∙ becomes (Outcomes w) n s ok outcomes (omega (arith, newest-le w (view n s ++ o ∷ []), fit))
+
+  pub outcome-sound : o < 2 → soundList (Outcomes w) (length outcomes) (padded outcomes) ≡ true
+  unfolding allBelow
+  outcome-sound h =
+      →sound (Outcomes w) outcomes (outcomes-fit w (length outcomes) (fit .0) (fit .1) (newest-le w (view n s ++ o ∷ [])))
+      (below-drop 2 (length (view n s ++ o ∷ []) - w) (view n s ++ o ∷ []) (rw (below-append, sound→ (Outcomes w) n s ok .ofItsKind, lt-ltb o 2 h)))
+
+-- ---- Windowed
+module _ (reading period n : ℕ) (s : List ℕ) (ok : soundList Times n s ≡ true) where
+  abbrev cutoff : ℕ
+  cutoff = reading - period
+
+  abbrev pub times : List ℕ
+  times = evicted cutoff (view n s ++ reading ∷ [])
+
+  pub time-full : full cutoff (view n s) ≡ true → pushedTime reading period n s ≡ refuse Full s
+  unfolding pushedTime
+  time-full e = simp (eq-eqb _ _ (sound→ Times n s ok .places), sound→ Times n s ok .lengthFits, e)
+
+  room : full cutoff (view n s) ≡ false → length times ≤ 4096
+  room e = rw (evicted-more cutoff reading (view n s) (omega arith), length-append) (omega (arith, leb-false 4096 (length (evicted cutoff (view n s))) e))
+
+  pub time-held : full cutoff (view n s) ≡ false → pushedTime reading period n s ≡ held times
+  unfolding pushedTime
+  time-held e = simp (eq-eqb _ _ (sound→ Times n s ok .places), sound→ Times n s ok .lengthFits, e) (becomes Times n s ok times (room e))
+
+  pub time-sound : full cutoff (view n s) ≡ false → soundList Times (length times) (padded times) ≡ true
+  time-sound e = →sound Times times (le-leb (length times) 4096 (room e)) refl
+
+  short : length (evicted cutoff (view n s)) ≤ 4096
+  short = omega (arith, evicted-le cutoff (view n s), length-take-le n s (omega (arith, sound→ Times n s ok .le, sound→ Times n s ok .places)), sound→ Times n s ok .le)
+
+  pub evict-held : evictedTimes reading period n s ≡ held (evicted cutoff (view n s))
+  unfolding evictedTimes
+  evict-held =
+      fine Times n s ok Times (become (evicted cutoff (view n s)) n s) (sound→ Times n s ok .lengthFits)
+      ∙ becomes Times n s ok (evicted cutoff (view n s)) short
+
+  pub evict-sound : soundList Times (length (evicted cutoff (view n s))) (padded (evicted cutoff (view n s))) ≡ true
+  evict-sound = →sound Times (evicted cutoff (view n s)) (le-leb (length (evicted cutoff (view n s))) 4096 short) refl

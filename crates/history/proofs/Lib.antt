@@ -1,0 +1,8 @@
+-- Laws, by what they speak of.
+pub mod Laws
+pub mod Counts
+pub mod Laid
+pub mod Sound
+pub mod Change
+pub mod Held
+pub mod OneToOne

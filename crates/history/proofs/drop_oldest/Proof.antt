@@ -1,0 +1,49 @@
+-- `history::drop_oldest` meets its contract: the items that stay are moved down, and the places behind them are cleared. Assumes nothing.
+use Prim.Native.Nat.{_-_}
+use native.Mathlib.Omega.{arith}
+use borrow.Author.Needs.{needs}
+use Rattle.history.proofs.Laid.{laid-kept}
+use Rattle.history.proofs.drop_oldest.Statement.{statement}
+use Rattle.history.proofs.drop_oldest.Tie as tie
+
+sub-kept : tie.Need-sub-kept
+sub-kept c = search needs
+
+slide-requires : tie.Need-slide-requires
+slide-requires c κs = search needs
+
+mul-zero : tie.Need-mul-zero
+mul-zero c = search needs
+
+sub-zero : tie.Need-sub-zero
+sub-zero c = search needs
+
+part-zero-start : tie.Need-part-zero-start
+part-zero-start c = search needs
+
+part-zero-end : tie.Need-part-zero-end
+part-zero-end c = search needs
+
+zero-requires : tie.Need-zero-requires
+zero-requires c κs = search needs
+
+same-length : tie.Need-same-length
+same-length c = search needs
+
+returns : tie.Need-returns
+returns c =
+    laid-kept (c .before .before .before .before .before .before .before .before .before .args .s .now) (c .before .before .before .before .before .before .before .before .before .args .n) (c .before .before .before .before .before .before .before .before .before .args .k) (c .before .before .before .before .before .before .before .before .before .args .n - c .before .before .before .before .before .before .before .before .before .args .k) (omega (arith, c .before .before .before .before .before .before .before .before .before .pre)) (c .before .before .before .before .before .before .before .before .before .pre .1) (c .before .before .before .before .before .before .slide .last .0) (c .before .before .zero .last .0) (c .before .before .before .before .before .before .slide .ensures) (c .before .before .zero .ensures)
+
+pub drop-oldest-spec : {M : Type 1} → statement M
+drop-oldest-spec =
+    tie.close
+    (tie.spec
+    sub-kept
+    slide-requires
+    mul-zero
+    sub-zero
+    part-zero-start
+    part-zero-end
+    zero-requires
+    same-length
+    returns)

@@ -1,0 +1,65 @@
+-- "The list lies in lent storage of 4,096 places, oldest first from place 0: outcomes (1 failed, 0 good) for Ratio, readings for
+-- Windowed, empty for Consecutive; places past its length hold 0."
+use Prim.Native.Nat.{ℕ, suc, _+_, _-_}
+use mathlib.Core.Bool.{Bool, true, false, _&&_}
+use mathlib.Core.List.{List, [], _∷_, _++_}
+use lib.ListN.{length, take, drop, replicate}
+use lib.Dec.{leb, ltb, eqb}
+use Rattle.error.specs.Choice.{if_then_else_}
+use Rattle.history.specs.declared.Items.{Items}
+use Rattle.history.specs.declared.Items.the-variants.{Nothing, Outcomes, Times}
+
+-- the list that lies in the storage s at the length len
+abbrev pub view : ℕ → List ℕ → List ℕ
+view len s = take len s
+
+-- the storage of a list: the list, then 0 up to 4,096 places
+abbrev pub padded : List ℕ → List ℕ
+padded xs = xs ++ replicate (4096 - length xs) 0
+
+-- whether every item is below b
+unfoldable pub allBelow : ℕ → List ℕ → Bool
+allBelow b [] = true
+allBelow b (x ∷ xs) = ltb x b && allBelow b xs
+
+-- "length ≤ window for Ratio, ≤ 4,096 for Windowed", "empty for Consecutive"; the window is within number 2's limit
+abbrev pub fits : Items → ℕ → Bool
+fits Nothing len = eqb len 0
+fits (Outcomes window) len = leb 1 window && (leb window 4096 && leb len window)
+fits Times len = leb len 4096
+
+-- "outcomes (1 failed, 0 good)"
+abbrev pub known : Items → List ℕ → Bool
+known Nothing xs = true
+known (Outcomes window) xs = allBelow 2 xs
+known Times xs = true
+
+-- whether the storage s with the length len holds a list of the kind
+unfoldable pub soundList : Items → ℕ → List ℕ → Bool
+soundList items len s = eqb (length s) 4096 && (fits items len && (allBelow 1 (drop len s) && known items (view len s)))
+
+-- the sum of what each item counts
+unfoldable pub sumOf : (ℕ → ℕ) → List ℕ → ℕ
+sumOf f [] = 0
+sumOf f (x ∷ xs) = f x + sumOf f xs
+
+-- how many outcomes failed
+abbrev pub failures : List ℕ → ℕ
+failures xs = sumOf (λ x. if eqb x 1 then 1 else 0) xs
+
+-- the sum of the items, which is `failures` for a list of outcomes (`total-failures` of proofs/Counts.antt)
+abbrev pub total : List ℕ → ℕ
+total xs = sumOf (λ x. x) xs
+
+-- "the times ≥ cutoff": how many
+abbrev pub recent : ℕ → List ℕ → ℕ
+recent cutoff ts = sumOf (λ t. if leb cutoff t then 1 else 0) ts
+
+-- "the newest `window` outcomes"
+abbrev pub newest : ℕ → List ℕ → List ℕ
+newest window xs = drop (length xs - window) xs
+
+-- "times at the front below the cutoff go"
+unfoldable pub evicted : ℕ → List ℕ → List ℕ
+evicted cutoff [] = []
+evicted cutoff (t ∷ ts) = if ltb t cutoff then evicted cutoff ts else t ∷ ts

@@ -1,0 +1,297 @@
+// The list of a breaker in lent storage: 4,096 places, oldest first from place 0, 0 past the length (the VecDeques of the Rust).
+// It knows nothing of breakers. No function relies on a sound list: each says what it makes of any storage.
+ghost use mathlib.Core.Path.{_≡_};
+ghost use Prim.Native.Nat.{ℕ, _+_, _-_, _≤_, _<_, _^_, _%_, min};
+ghost use lib.ListN.{length, take, drop, replicate};
+ghost use mathlib.Core.List.{[], _∷_, _++_};
+ghost use lib.Dec.{ltb};
+ghost use Rattle.history.specs.Items.{view, allBelow, fits, soundList, total, recent, newest, evicted};
+ghost use Rattle.history.specs.Change.{laid, left, told, bit, pushedOutcome, pushedTime, evictedTimes, cleared};
+use error::Refusal;
+
+// What the list of a breaker holds, by its policy.
+pub enum Items {
+    // Consecutive: always empty
+    Nothing,
+    // Ratio: the newest outcomes, 1 failed and 0 good, at most so many
+    Outcomes(u32),
+    // Windowed: readings of failures
+    Times,
+}
+
+// The answer of a call that changes the list: its new length, or a refusal that left every place as it was.
+pub enum Changed {
+    Stored(u32),
+    Refused(Refusal),
+}
+
+// The bits that any element of `s` has: below a power of two where every element is.
+fn any_bits(s: &[u64]) -> u64
+    ensures { λ r. ⌜ ((k : ℕ) → ltb r (2 ^ k) ≡ allBelow (2 ^ k) (now (s .entry))) ⌝ }
+{
+    let mut bits: u64 = 0;
+    let mut i: usize = 0;
+    while i < s.len() {
+        bits |= s[i];
+        i += 1;
+    }
+    bits
+}
+
+// Whether a list of the kind may have this length.
+fn may_have(items: Items, len: u32) -> bool
+    ensures { λ r. ⌜ r ≡ fits items len ⌝ }
+{
+    match items {
+        Items::Nothing => len == 0,
+        Items::Outcomes(window) => {
+            if window < 1 {
+                return false;
+            }
+            if 4096 < window {
+                return false;
+            }
+            len <= window
+        }
+        Items::Times => len <= 4096,
+    }
+}
+
+// Whether the storage with this length holds a sound list of the kind, in one pass over it.
+// Ruled out: a scan that skips the last place; an outcome of 2 taken for sound.
+pub fn sound_list(list: &[u64], len: u32, items: Items) -> bool
+    ensures { λ r. ⌜ r ≡ soundList items len (now (list .entry)) ⌝ }
+{
+    if list.len() != 4096 {
+        return false;
+    }
+    if !may_have(items, len) {
+        return false;
+    }
+    let n = len as usize;
+    let past = any_bits(&list[n..]);
+    if past >= 1 {
+        return false;
+    }
+    match items {
+        Items::Nothing => true,
+        Items::Outcomes(_) => any_bits(&list[..n]) < 2,
+        Items::Times => true,
+    }
+}
+
+// The places of the list, of which there are no more than there is storage.
+fn within(len: u32, places: usize) -> usize
+    ensures { λ r. ⌜ r ≡ min len places ⌝ }
+{
+    let n = len as usize;
+    if n <= places {
+        return n;
+    }
+    places
+}
+
+// The sum of the elements, wrapping.
+fn sum(s: &[u64]) -> u64
+    ensures { λ r. ⌜ r ≡ total (now (s .entry)) % 2 ^ 64 ⌝ }
+{
+    let mut n: u64 = 0;
+    let mut i: usize = 0;
+    while i < s.len() {
+        n = std::num::wrapping_add_u64(n, s[i]);
+        i += 1;
+    }
+    n
+}
+
+// How many elements are at least `cutoff`.
+fn at_or_after(s: &[u64], cutoff: u64) -> u64
+    ensures { λ r. ⌜ r ≡ recent cutoff (now (s .entry)) ⌝ }
+{
+    let mut n: u64 = 0;
+    let mut i: usize = 0;
+    while i < s.len() {
+        if cutoff <= s[i] {
+            n += 1;
+        }
+        i += 1;
+    }
+    n
+}
+
+// How many outcomes of the list failed: the sum of its zeros and ones. Of other numbers the sum wraps.
+// Ruled out: a count that stops before the newest outcome; one that counts the good outcomes.
+pub fn count_failures(list: &[u64], len: u32) -> u64
+    ensures { λ r. ⌜ r ≡ total (view len (now (list .entry))) % 2 ^ 64 ⌝ }
+{
+    let n = within(len, list.len());
+    sum(&list[..n])
+}
+
+// How many readings of the list are at or after the cutoff.
+// Ruled out: a count that leaves out a reading equal to the cutoff; one that goes on past the length.
+pub fn count_recent(list: &[u64], len: u32, cutoff: u64) -> u32
+    ensures { λ r. ⌜ r ≡ recent cutoff (view len (now (list .entry))) ⌝ }
+{
+    let n = within(len, list.len());
+    at_or_after(&list[..n], cutoff) as u32
+}
+
+// Moves the n elements from k on down to the front.
+fn slide(s: &mut [u64], k: usize, n: usize)
+    requires { ⌜ k + n ≤ length (now s) ⌝ }
+    ensures { λ _. ⌜ now (s .exit) ≡ take n (drop k (now (s .entry))) ++ drop n (now (s .entry)) ⌝ }
+{
+    if k == 0 {
+        return;
+    }
+    let mut i: usize = 0;
+    while i < n {
+        s[i] = s[k + i];
+        i += 1;
+    }
+}
+
+// Writes 0 to every place.
+fn zero(s: &mut [u64])
+    ensures { λ _. ⌜ now (s .exit) ≡ replicate (length (now (s .entry))) 0 ⌝ }
+{
+    let mut i: usize = 0;
+    while i < s.len() {
+        s[i] = 0;
+        i += 1;
+    }
+}
+
+// Drops the k oldest of the n items, and clears the places that fall free.
+fn drop_oldest(s: &mut [u64], n: usize, k: usize)
+    requires { ⌜ (k ≤ n) × (n ≤ length (now s)) ⌝ }
+    ensures { λ _. ⌜ now (s .exit) ≡ laid n (drop k (take n (now (s .entry)))) (now (s .entry)) ⌝ }
+{
+    let kept = n - k;
+    slide(s, k, kept);
+    zero(&mut s[kept..n]);
+}
+
+// Drops the k oldest of the n items, and appends v.
+fn turn_over(s: &mut [u64], n: usize, k: usize, v: u64)
+    requires { ⌜ (k ≤ n) × (n ≤ length (now s)) × (n - k < length (now s)) ⌝ }
+    ensures { λ _. ⌜ now (s .exit) ≡ laid n (drop k (take n (now (s .entry))) ++ v ∷ []) (now (s .entry)) ⌝ }
+{
+    drop_oldest(s, n, k);
+    let kept = n - k;
+    s[kept] = v;
+}
+
+fn bit_of(failed: bool) -> u64
+    ensures { λ r. ⌜ r ≡ bit failed ⌝ }
+{
+    if failed { 1 } else { 0 }
+}
+
+// Appends an outcome, and drops the oldest where the window is full.
+// Ruled out: a push that keeps one outcome more than the window; one that leaves an old outcome in a place that fell free.
+pub fn push_outcome(list: &mut [u64], len: u32, window: u32, failed: bool) -> Changed
+    ensures { λ r. ⌜ left (told r) (now (list .exit)) ≡ pushedOutcome window (bit failed) len (now (list .entry)) ⌝ }
+{
+    if list.len() != 4096 {
+        return Changed::Refused(Refusal::Storage);
+    }
+    if !may_have(Items::Outcomes(window), len) {
+        return Changed::Refused(Refusal::Unsound);
+    }
+    let n = len as usize;
+    let v = bit_of(failed);
+    if len < window {
+        turn_over(list, n, 0, v);
+        return Changed::Stored(len + 1);
+    }
+    turn_over(list, n, 1, v);
+    Changed::Stored(len)
+}
+
+// The reading from which on a failure counts.
+// Ruled out: a difference that wraps; the period taken from the wrong side.
+pub fn cutoff(reading: u64, period: u64) -> u64
+    ensures { λ r. ⌜ r ≡ reading - period ⌝ }
+{
+    if reading < period {
+        return 0;
+    }
+    reading - period
+}
+
+// How many elements at the front are below `cutoff`.
+fn first_recent(s: &[u64], cutoff: u64) -> usize
+    ensures { λ r. ⌜ (drop r (now (s .entry)) ≡ evicted cutoff (now (s .entry))) × (r ≤ length (now (s .entry))) ⌝ }
+{
+    let mut i: usize = 0;
+    while i < s.len() {
+        if s[i] >= cutoff {
+            return i;
+        }
+        i += 1;
+    }
+    i
+}
+
+// How many of the n oldest readings are before the cutoff.
+fn expired(list: &[u64], n: usize, reading: u64, period: u64) -> usize
+    requires { ⌜ n ≤ length (now list) ⌝ }
+    ensures { λ r. ⌜ (drop r (take n (now (list .entry))) ≡ evicted (reading - period) (take n (now (list .entry)))) × (r ≤ n) ⌝ }
+{
+    first_recent(&list[..n], cutoff(reading, period))
+}
+
+// Appends a failure's reading, and drops the oldest while they are before the cutoff. Where 4,096 older ones would be left nothing is done.
+// Ruled out: one that evicts a reading equal to the cutoff; one that keeps the eviction where it refuses.
+pub fn push_time(list: &mut [u64], len: u32, reading: u64, period: u64) -> Changed
+    ensures { λ r. ⌜ left (told r) (now (list .exit)) ≡ pushedTime reading period len (now (list .entry)) ⌝ }
+{
+    if list.len() != 4096 {
+        return Changed::Refused(Refusal::Storage);
+    }
+    if !may_have(Items::Times, len) {
+        return Changed::Refused(Refusal::Unsound);
+    }
+    let n = len as usize;
+    let k = expired(list, n, reading, period);
+    if n - k == 4096 {
+        return Changed::Refused(Refusal::Full);
+    }
+    turn_over(list, n, k, reading);
+    Changed::Stored((n - k + 1) as u32)
+}
+
+// Drops the oldest readings while they are before the cutoff: what a success does to them.
+// Ruled out: one that stops after the first; one that also drops a reading behind a recent one.
+pub fn evict_times(list: &mut [u64], len: u32, reading: u64, period: u64) -> Changed
+    ensures { λ r. ⌜ left (told r) (now (list .exit)) ≡ evictedTimes reading period len (now (list .entry)) ⌝ }
+{
+    if list.len() != 4096 {
+        return Changed::Refused(Refusal::Storage);
+    }
+    if !may_have(Items::Times, len) {
+        return Changed::Refused(Refusal::Unsound);
+    }
+    let n = len as usize;
+    let k = expired(list, n, reading, period);
+    drop_oldest(list, n, k);
+    Changed::Stored((n - k) as u32)
+}
+
+// Empties the list.
+// Ruled out: one that leaves the newest item; one that answers a length other than 0.
+pub fn clear(list: &mut [u64], len: u32) -> Changed
+    ensures { λ r. ⌜ left (told r) (now (list .exit)) ≡ cleared len (now (list .entry)) ⌝ }
+{
+    if list.len() != 4096 {
+        return Changed::Refused(Refusal::Storage);
+    }
+    if !may_have(Items::Times, len) {
+        return Changed::Refused(Refusal::Unsound);
+    }
+    let n = len as usize;
+    drop_oldest(list, n, n);
+    Changed::Stored(0)
+}

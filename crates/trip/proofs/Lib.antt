@@ -1,0 +1,5 @@
+-- Laws, by what they speak of.
+pub mod Floats
+pub mod Settings
+pub mod OneToOne
+pub mod Edges
