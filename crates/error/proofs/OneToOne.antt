@@ -1,12 +1,14 @@
 -- A refusal is known by its number. Assumes nothing.
 use Prim.Native.Nat.{ℕ}
 use mathlib.Core.Path.{_≡_, refl, sym, ap, _∙_}
-use mathlib.Core.Bool.{false}
+use mathlib.Core.Bool.{false, false≢true}
+use mathlib.Core.List.{List}
 use lib.Dec.{eqb}
+use borrow.Author.Tests.{eq-eqb}
 use Rattle.error.specs.declared.Refusal.{Refusal}
 use Rattle.error.specs.declared.Refusal.the-variants.{Time, Limit, Storage, Unsound, Full}
 use Rattle.error.specs.Choice.{if_then_else_}
-use Rattle.error.specs.Told.{Told, numberOf, refused}
+use Rattle.error.specs.Told.{Told, tell, numberOf, refused}
 
 abbrev pub named : ℕ → Refusal
 named n =
@@ -33,3 +35,7 @@ number-not-0 Full = refl
 
 pub refused-one : (a b : Refusal) → refused a ≡ refused b → a ≡ b
 refused-one a b e = sym (named-number a) ∙ ap (λ (t : Told). named (t .number)) e ∙ named-number b
+
+-- what is told with 0 is no refusal
+pub no-refusal : {A : Type 0} (r : Refusal) (vs : List ℕ) → tell 0 vs ≡ refused r → A
+no-refusal r vs e = absurd (false≢true (sym (number-not-0 r) ∙ eq-eqb (numberOf r) 0 (sym (ap (λ (t : Told). t .number) e))))

@@ -5,9 +5,9 @@
 use mathlib.Core.Path.{_≡_, refl, sym, ap, _∙_}
 use mathlib.Core.Bool.{Bool, true, false, _&&_}
 use mathlib.Core.List.{List, [], _∷_, _++_}
-use Prim.Native.Nat.{ℕ, _+_, _-_, _≤_, _<_}
+use Prim.Native.Nat.{ℕ, _+_, _-_, _%_, _^_, _≤_, _<_}
 use native.Mathlib.Omega.{arith}
-use lib.ListN.{length, drop, length-append, length-drop}
+use lib.ListN.{length, drop, length-append, length-drop, drop-of-length-le}
 use lib.Seq.{length-take-le}
 use lib.Dec.{ltb, leb, eqb}
 use borrow.Author.Tests.{lt-ltb, le-leb, leb-false, eq-eqb}
@@ -15,19 +15,16 @@ use Rattle.error.specs.Told.{tell}
 use Rattle.error.specs.declared.Refusal.the-variants.{Full}
 use Rattle.history.specs.declared.Items.{Items}
 use Rattle.history.specs.declared.Items.the-variants.{Nothing, Outcomes, Times}
-use Rattle.history.specs.Items.{view, padded, allBelow, fits, known, soundList, newest, evicted}
-use Rattle.history.specs.Change.{Left, left, become, refuse, onList, full, pushedOutcome, pushedTime, evictedTimes, cleared}
+use Rattle.history.specs.Items.{view, padded, allBelow, fits, known, soundList, failures, total, newest, evicted}
+use Rattle.history.specs.Change.{Left, left, held, become, refuse, onList, full, pushedOutcome, pushedTime, evictedTimes, cleared}
 use Rattle.history.proofs.Laws.{below-append, below-drop}
+use Rattle.history.proofs.Counts.{count-le, total-failures}
 use Rattle.history.proofs.Laid.{laid-padded}
 use Rattle.history.proofs.Sound.{Sound, sound→, →sound, fits-outcomes, outcomes-fit}
 use Rattle.history.proofs.Change.{evicted-le, evicted-more}
 
 pub newest-le : (w : ℕ) (ys : List ℕ) → length (newest w ys) ≤ w
 newest-le w ys = simp length-drop (omega arith)
-
--- the list xs, in storage of its own
-abbrev pub held : List ℕ → Left
-held xs = left (tell 0 (length xs ∷ [])) (padded xs)
 
 module _ (items : Items) (n : ℕ) (s : List ℕ) (ok : soundList items n s ≡ true) where
   fine : (kind : Items) (x : Left) → fits kind n ≡ true → onList kind n s x ≡ x
@@ -104,3 +101,18 @@ module _ (reading period n : ℕ) (s : List ℕ) (ok : soundList Times n s ≡ t
 
   pub evict-sound : soundList Times (length (evicted cutoff (view n s))) (padded (evicted cutoff (view n s))) ≡ true
   evict-sound = →sound Times (evicted cutoff (view n s)) (le-leb (length (evicted cutoff (view n s))) 4096 short) refl
+
+-- ---- the count of a sound list's failures
+module _ (w n : ℕ) (s : List ℕ) (ok : soundList (Outcomes w) n s ≡ true) where
+  pub failures-le : failures (view n s) ≤ 4096
+  failures-le =
+      let z = sound→ (Outcomes w) n s ok in
+      omega (arith, count-le (λ x. eqb x 1) (view n s), length-take-le n s (omega (arith, z .le, z .places)), z .le)
+
+  pub failures-held : total (view n s) % 2 ^ 64 ≡ failures (view n s)
+  failures-held = omega (arith, total-failures (view n s) (sound→ (Outcomes w) n s ok .ofItsKind), failures-le)
+
+-- all places are cleared, whatever they held
+pub clear-all : (s : List ℕ) → length s ≡ 4096 → cleared 4096 s ≡ held []
+unfolding cleared
+clear-all s p = simp (eq-eqb _ _ p, drop-of-length-le s {i = 4096} (omega arith))

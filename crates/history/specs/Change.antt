@@ -12,7 +12,7 @@ use Rattle.history.specs.declared.Items.{Items}
 use Rattle.history.specs.declared.Items.the-variants.{Outcomes, Times}
 use Rattle.history.specs.declared.Changed.{Changed}
 use Rattle.history.specs.declared.Changed.the-variants.{Stored, Refused}
-use Rattle.history.specs.Items.{view, fits, newest, evicted}
+use Rattle.history.specs.Items.{view, padded, fits, newest, evicted}
 
 -- the number of document 01's table, 0 for a change that was made, with the new length
 abbrev pub told : Changed → Told
@@ -34,6 +34,10 @@ laid n xs s = xs ++ (replicate (n - length xs) 0 ++ drop (max n (length xs)) s)
 -- the n items in s become xs
 abbrev pub become : List ℕ → ℕ → List ℕ → Left
 become xs n s = left (told (Stored (length xs))) (laid n xs s)
+
+-- the list xs in storage of its own: what a change leaves of a sound list
+abbrev pub held : List ℕ → Left
+held xs = left (told (Stored (length xs))) (padded xs)
 
 -- refused with every place as it was
 abbrev pub refuse : Refusal → List ℕ → Left

@@ -4,9 +4,9 @@ use mathlib.Core.Path.{_≡_, refl}
 use mathlib.Core.Bool.{true, false}
 use lib.IntN.{pos}
 use lib.Ieee.{nan, fin, binary64, toBits, isNan, lt}
-use Rattle.error.specs.Told.{tell}
 use Rattle.trip.specs.declared.Trip.the-variants.{Consecutive, Ratio}
-use Rattle.trip.specs.Settings.{clampedRatio, normalisedTrip, oneRatio, configOf, configValues, defaultBuilder, withHalfOpen}
+use Rattle.trip.specs.declared.Built.the-variants.{Made}
+use Rattle.trip.specs.Settings.{clampedRatio, normalisedTrip, oneRatio, builtOf, defaultBuilder, withHalfOpen}
 
 -- P1 n 0 becomes 1
 pub p1 : normalisedTrip (Consecutive 0) ≡ Consecutive 1
@@ -27,6 +27,6 @@ unfolding clampedRatio toBits isNan lt
 p3-bits = refl
 
 -- P4 half-open 3, 9 becomes 3, 3
-pub p4 : configOf (withHalfOpen 3 9 defaultBuilder) ≡ tell 0 (configValues (record { kind = 1; limit = 5; «ratio_bits» = 0; «min_calls» = 0; «period_ms» = 0; «cooldown_ms» = 30000; trials = 3; required = 3 }))
-unfolding configOf
+pub p4 : builtOf (withHalfOpen 3 9 defaultBuilder) ≡ Made (record { kind = 1; limit = 5; «ratio_bits» = 0; «min_calls» = 0; «period_ms» = 0; «cooldown_ms» = 30000; trials = 3; required = 3 })
+unfolding builtOf
 p4 = refl

@@ -1,6 +1,6 @@
 -- Laws on durations, normalising and the settings of a record. Assumes nothing.
 use mathlib.Core.Path.{_≡_, refl, sym, ap, _∙_}
-use mathlib.Core.Bool.{Bool, true, false, not, _&&_, false≢true}
+use mathlib.Core.Bool.{Bool, true, false, not, _&&_}
 use mathlib.Core.List.{List, [], _∷_}
 use Prim.Native.Nat.{ℕ, _*_, min, max}
 use native.Mathlib.Omega.{arith}
@@ -10,21 +10,18 @@ use lib.ListN.{getD}
 use borrow.Author.Tests.{eq-eqb}
 use lib.Ieee.{Float, nan, inf, fin, up, down, lt, eq, ne, isNan}
 use Rattle.error.specs.Choice.{if_then_else_}
-use Rattle.error.specs.Told.{Told, tell, refused, numberOf}
+use Rattle.error.specs.Told.{Told, tell, refused}
 use Rattle.error.specs.declared.Refusal.{Refusal}
 use Rattle.error.specs.declared.Refusal.the-variants.{Time, Limit}
-use Rattle.error.proofs.OneToOne.{number-not-0}
+use Rattle.error.proofs.OneToOne.{no-refusal}
 use Rattle.trip.specs.declared.Duration.{Duration}
 use Rattle.trip.specs.declared.Trip.{Trip}
 use Rattle.trip.specs.declared.Trip.the-variants.{Consecutive, Ratio, Windowed}
+use Rattle.trip.specs.declared.Built.the-variants.{Made, Refused as NotMade}
 use Rattle.trip.specs.declared.CircuitBreakerBuilder.{CircuitBreakerBuilder}
-use Rattle.trip.specs.Settings.{isTime, millis, millisOf, zeroRatio, oneRatio, clampedRatio, normalisedTrip, periodIsTime, overLimit, configFor, configValues, settingsOf, configOf}
+use Rattle.trip.specs.Settings.{isTime, millis, millisOf, zeroRatio, oneRatio, clampedRatio, normalisedTrip, periodIsTime, overLimit, configFor, configValues, builtTold, settingsOf, builtOf}
 
 -- ---- durations
--- a refusal is no success
-no-refusal : {A : Type 0} (r : Refusal) (vs : List ℕ) → tell 0 vs ≡ refused r → A
-no-refusal r vs e = absurd (false≢true (sym (number-not-0 r) ∙ eq-eqb (numberOf r) 0 (sym (ap (λ (t : Told). t .number) e))))
-
 pub millis-refused : (d : Duration) (r : Refusal) → refused r ≡ millisOf d → (isTime d ≡ false) × (refused r ≡ refused Time)
 millis-refused d r e = go (isTime d) refl e
   where
@@ -75,26 +72,27 @@ module _ (t : Trip) (cooldown trials required : ℕ) where
   -- the settings are those of the normalised policy
   are : (u : Trip) → normalisedTrip t ≡ u
       → settingsOf t cooldown trials required
-      ≡ (if not (periodIsTime u) then refused Time else if overLimit u then refused Limit else tell 0 (configValues (configFor u cooldown trials required)))
+      ≡ (if not (periodIsTime u) then NotMade Time else if overLimit u then NotMade Limit else Made (configFor u cooldown trials required))
   are u e = rw (← e, period-kept t)
 
   pub settings-made : (u : Trip) → normalisedTrip t ≡ u → periodIsTime u ≡ true → overLimit u ≡ false
-      → tell 0 (configValues (configFor u cooldown trials required)) ≡ settingsOf t cooldown trials required
-  settings-made u e p l = sym (are u e ∙ simp (p, l))
+      → tell 0 (configValues (configFor u cooldown trials required)) ≡ builtTold (settingsOf t cooldown trials required)
+  settings-made u e p l = simp (are u e, p, l)
 
-  pub settings-limit : (u : Trip) → normalisedTrip t ≡ u → periodIsTime u ≡ true → overLimit u ≡ true → refused Limit ≡ settingsOf t cooldown trials required
-  settings-limit u e p l = sym (are u e ∙ simp (p, l))
+  pub settings-limit : (u : Trip) → normalisedTrip t ≡ u → periodIsTime u ≡ true → overLimit u ≡ true
+      → refused Limit ≡ builtTold (settingsOf t cooldown trials required)
+  settings-limit u e p l = simp (are u e, p, l)
 
-  pub settings-time : (u : Trip) → normalisedTrip t ≡ u → periodIsTime u ≡ false → refused Time ≡ settingsOf t cooldown trials required
-  settings-time u e p = sym (are u e ∙ simp p)
+  pub settings-time : (u : Trip) → normalisedTrip t ≡ u → periodIsTime u ≡ false → refused Time ≡ builtTold (settingsOf t cooldown trials required)
+  settings-time u e p = simp (are u e, p)
 
 -- ---- the builder
-pub config-time : (b : CircuitBreakerBuilder) → isTime (b .cooldown) ≡ false → refused Time ≡ configOf b
-unfolding configOf
+pub config-time : (b : CircuitBreakerBuilder) → isTime (b .cooldown) ≡ false → refused Time ≡ builtTold (builtOf b)
+unfolding builtOf
 config-time b e = simp e
 
 pub config-made : (b : CircuitBreakerBuilder) (ms trials required : ℕ) → isTime (b .cooldown) ≡ true → ms ≡ millis (b .cooldown)
     → trials ≡ max (b .«half_open_trials») 1 → required ≡ min (max (b .«half_open_required») 1) trials
-    → settingsOf (b .trip) ms trials required ≡ configOf b
-unfolding configOf
+    → builtTold (settingsOf (b .trip) ms trials required) ≡ builtTold (builtOf b)
+unfolding builtOf
 config-made b ms trials required e m t r = simp (e, m, r, t)

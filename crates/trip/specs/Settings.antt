@@ -91,18 +91,18 @@ configFor (Ratio window ratio least) cooldown trials required =
 configFor (Windowed failures period) cooldown trials required =
     record { kind = 3; limit = failures; «ratio_bits» = 0; «min_calls» = 0; «period_ms» = millis period; «cooldown_ms» = cooldown; trials = trials; required = required }
 
-abbrev pub settingsOf : Trip → ℕ → ℕ → ℕ → Told
+abbrev pub settingsOf : Trip → ℕ → ℕ → ℕ → Built
 settingsOf trip cooldown trials required =
-    if not (periodIsTime trip) then refused Time
-    else if overLimit (normalisedTrip trip) then refused Limit
-    else tell 0 (configValues (configFor (normalisedTrip trip) cooldown trials required))
+    if not (periodIsTime trip) then NotMade Time
+    else if overLimit (normalisedTrip trip) then NotMade Limit
+    else Made (configFor (normalisedTrip trip) cooldown trials required)
 
 -- "Trials at least 1; required 1 to trials."; 1 for the cooldown, then for the period, then 2
-unfoldable pub configOf : CircuitBreakerBuilder → Told
-configOf b =
+unfoldable pub builtOf : CircuitBreakerBuilder → Built
+builtOf b =
     let trials = max (b .«half_open_trials») 1 in
     if isTime (b .cooldown) then settingsOf (b .trip) (millis (b .cooldown)) trials (min (max (b .«half_open_required») 1) trials)
-    else refused Time
+    else NotMade Time
 
 -- ---- the builder
 

@@ -3,7 +3,7 @@ ghost use mathlib.Core.Path.{_≡_};
 ghost use Prim.Native.Nat.{min, max};
 ghost use lib.Dec.{leb};
 ghost use lib.Ieee.{binary64, ofBits};
-ghost use Rattle.trip.specs.Settings.{millisTold, millisOf, clampedRatio, normalisedRatio, normalisedTrip, builtTold, settingsOf, configOf, defaultBuilder, withTrip, withCooldown, withHalfOpen};
+ghost use Rattle.trip.specs.Settings.{millisTold, millisOf, clampedRatio, normalisedRatio, normalisedTrip, builtTold, settingsOf, builtOf, defaultBuilder, withTrip, withCooldown, withHalfOpen};
 ghost use Rattle.trip.specs.Policy.{ratioReached, boardFigure};
 use error::Refusal;
 
@@ -172,7 +172,7 @@ pub struct CircuitBreakerBuilder {
 
 // The settings of a policy, beside the numbers that every policy has.
 fn config_of(trip: Trip, cooldown_ms: u64, trials: u32, required: u32) -> Built
-    ensures { λ r. ⌜ builtTold r ≡ settingsOf trip «cooldown_ms» trials required ⌝ }
+    ensures { λ r. ⌜ builtTold r ≡ builtTold (settingsOf trip «cooldown_ms» trials required) ⌝ }
 {
     match trip.normalised() {
         Trip::Consecutive(n) => Built::Made(Config {
@@ -292,7 +292,7 @@ impl CircuitBreakerBuilder {
     // The settings of a record, normalised, or refusal 1, then 2.
     // Ruled out: 2 told before 1; a window of 4,097 cut to 4,096.
     pub fn config(self) -> Built
-        ensures { λ r. ⌜ builtTold r ≡ configOf self ⌝ }
+        ensures { λ r. ⌜ builtTold r ≡ builtTold (builtOf self) ⌝ }
     {
         let trip = self.trip;
         let cooldown = self.cooldown;
