@@ -1,0 +1,51 @@
+-- The entry points: refusals 3 and 4, and what is left after the test. Assumes nothing.
+use mathlib.Core.Path.{_≡_, refl, sym, ap, _∙_}
+use mathlib.Core.Bool.{Bool, true, false}
+use mathlib.Core.List.{List, []}
+use Prim.Native.Nat.{ℕ}
+use lib.ListN.{length}
+use borrow.Author.Tests.{eq-eqb, ne-eqb}
+use Rattle.error.specs.Told.{Told, tell, refused}
+use Rattle.error.specs.declared.Refusal.the-variants.{Storage, Unsound}
+use Rattle.history.specs.Items.{padded}
+use Rattle.circuit.specs.declared.Breaker.{Breaker}
+use Rattle.circuit.specs.Record.{Settings, State, settings, state, stored, sound}
+use Rattle.circuit.specs.Rules.{Outcome, outcome}
+use Rattle.circuit.specs.Calls.{After, after, kept, onSound, asked}
+use Rattle.circuit.specs.Locked.{Holds}
+use Rattle.circuit.proofs.Record.{stored-state, padded-state, sound-places}
+
+pub holds : (b : Breaker) (s : List ℕ) → sound b s ≡ true → Holds (b .config) (state b s) b s
+holds b s ok = (stored-state b s ok, padded-state b s ok)
+
+module _ (rule : Settings → State → Outcome) (b : Breaker) (s : List ℕ) where
+  pub sound-storage : (length s ≡ 4096 → ⊥) → after (refused Storage) b s ≡ onSound rule b s
+  unfolding onSound
+  sound-storage n = simp (ne-eqb (length s) 4096 n)
+
+  pub sound-refused : length s ≡ 4096 → sound b s ≡ false → after (refused Unsound) b s ≡ onSound rule b s
+  unfolding onSound
+  sound-refused p e = simp (eq-eqb (length s) 4096 p, e)
+
+  pub sound-done : sound b s ≡ true → kept (b .config) (rule (settings (b .config)) (state b s)) ≡ onSound rule b s
+  unfolding onSound
+  sound-done ok = simp (eq-eqb (length s) 4096 (sound-places b s ok), ok)
+
+  -- a rule that keeps the list: the record after it, with the places as they were
+  pub sound-fields : sound b s ≡ true → (t : Told) (st : State) (next : Breaker) → rule (settings (b .config)) (state b s) ≡ outcome t st → next ≡ stored (b .config) st
+      → st .list ≡ state b s .list → after t next s ≡ onSound rule b s
+  sound-fields ok t st next r q l =
+      ap (after t next) (padded-state b s ok ∙ ap padded (sym l)) ∙ ap (λ (x : Breaker). after t x (padded (st .list))) q ∙ ap (kept (b .config)) (sym r) ∙ sound-done ok
+
+module _ (rule : Settings → State → Told) (b : Breaker) (s : List ℕ) where
+  pub asked-storage : (length s ≡ 4096 → ⊥) → refused Storage ≡ asked rule b s
+  unfolding asked
+  asked-storage n = simp (ne-eqb (length s) 4096 n)
+
+  pub asked-refused : length s ≡ 4096 → sound b s ≡ false → refused Unsound ≡ asked rule b s
+  unfolding asked
+  asked-refused p e = simp (eq-eqb (length s) 4096 p, e)
+
+  pub asked-done : sound b s ≡ true → rule (settings (b .config)) (state b s) ≡ asked rule b s
+  unfolding asked
+  asked-done ok = simp (eq-eqb (length s) 4096 (sound-places b s ok), ok)

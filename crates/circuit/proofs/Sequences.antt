@@ -1,0 +1,118 @@
+-- The batch: one call, the turn of its loop, and its refusals. Assumes nothing.
+use mathlib.Core.Path.{_≡_, refl, sym, ap, ap₂, _∙_}
+use mathlib.Core.Bool.{Bool, true, false, not, _&&_}
+use mathlib.Core.List.{List, [], _∷_, _++_, append-nil}
+use Prim.Native.Nat.{ℕ, zero, suc, _+_, _≤_, _<_}
+use native.Mathlib.Numerals.{add-one}
+use native.Mathlib.Omega.{arith}
+use lib.Dec.{eqb}
+use lib.ListN.{length, drop, set, getD, length-append, drop-of-length-le}
+use lib.Seq.{drop-cons, append-snoc, set-at}
+use borrow.Author.Tests.{eq-eqb, ne-eqb}
+use Rattle.error.specs.Choice.{if_then_else_}
+use Rattle.error.specs.Told.{Told, refused}
+use Rattle.error.specs.declared.Refusal.the-variants.{Storage, Unsound}
+use Rattle.history.specs.Items.{padded}
+use Rattle.trip.specs.declared.Config.{Config}
+use Rattle.circuit.specs.declared.Ticket.{Ticket}
+use Rattle.circuit.specs.declared.Breaker.{Breaker}
+use Rattle.circuit.specs.Record.{Settings, State, settings, state, stored, sound}
+use Rattle.circuit.specs.Rules.{Call, Outcome, done, finish, settling, aborting}
+use Rattle.circuit.specs.Calls.{After, after, kept}
+use Rattle.circuit.specs.Orders.{Ran, run, inTurn, nothing}
+use Rattle.circuit.specs.Batch.{Slices, callBy, callAt, callsTo, calls, Batch, batch, numbers, alike, finishedAll}
+use Rattle.circuit.specs.Locked.{Holds}
+use Rattle.circuit.proofs.Record.{sound-places}
+use Rattle.circuit.proofs.Keeps.{SoundAt, sound-run, sound-state}
+use Rattle.circuit.proofs.Orders.{run-nil, run-snoc}
+use Rattle.circuit.proofs.Guard.{holds}
+
+-- ---- one call
+module _ (c : Config) (st : State) (reading : ℕ) (t : Ticket) (mark : Bool) (s : List ℕ) (b : Breaker) (h : Holds c st b s) where
+  pub call-settles : (settles : Bool) → settles ≡ true → (x : After) → x ≡ kept c (finish (settings c) reading (settling t mark) st)
+      → x ≡ kept c (finish (settings c) reading (callBy t settles mark) st)
+  call-settles settles e x q = rw e q
+
+  pub call-aborts : (settles : Bool) → settles ≡ false → (next : Breaker)
+      → kept c (finish (settings c) reading (aborting t mark) st) ≡ after nothing next (padded (st .list))
+      → after nothing next s ≡ kept c (finish (settings c) reading (callBy t settles mark) st)
+  call-aborts settles e next q = rw e (ap (after nothing next) (h .1) ∙ sym q)
+
+numbers-more : (told : List Told) (t : Told) → numbers (told ++ (t ∷ [])) ≡ numbers told ++ (t .number ∷ [])
+numbers-more [] t = refl
+numbers-more (a ∷ told) t = ap (λ (y : List ℕ). a .number ∷ y) (numbers-more told t)
+
+-- ---- the calls so far
+module _ (x : Slices) (reading : ℕ) (start : Breaker) (s : List ℕ) where
+  abbrev pub soFar : ℕ → Ran
+  soFar i = inTurn reading start s (callsTo x i)
+
+  more : (i : ℕ) → (let o = finish (settings (start .config)) reading (callAt x i) (soFar i .after) in
+      soFar (suc i) ≡ record { after = o .after; answers = soFar i .answers ++ (o .told ∷ []) })
+  unfolding callsTo
+  more i = run-snoc (settings (start .config)) reading (callsTo x i) (callAt x i) (state start s)
+
+  count : (i : ℕ) → length (numbers (soFar i .answers)) ≡ i
+  unfolding callsTo run
+  count zero = refl
+  count (suc i) = ap (λ (r : Ran). length (numbers (r .answers))) (more i) ∙ one (soFar i .answers) (finish (settings (start .config)) reading (callAt x i) (soFar i .after) .told) i (count i)
+    where
+      one : (told : List Told) (t : Told) (n : ℕ) → length (numbers told) ≡ n → length (numbers (told ++ (t ∷ []))) ≡ suc n
+      one told t n e = rw (numbers-more told t, length-append, e, add-one)
+
+  -- the loop: the record and the places hold the state so far, and the answers so far stand in front
+  pub record Turn (a₀ : List ℕ) (b : Breaker) (l a : List ℕ) (i : ℕ) : Type 0 where
+    pub held : Holds (start .config) (soFar i .after) b l
+    pub told : a ≡ numbers (soFar i .answers) ++ drop i a₀
+
+  pub turn-first : sound start s ≡ true → (a₀ : List ℕ) → Turn a₀ start s a₀ 0
+  unfolding callsTo run
+  turn-first ok a₀ = record { held = holds start s ok; told = refl }
+
+  pub turn-sound : {a₀ : List ℕ} {b : Breaker} {l a : List ℕ} {i : ℕ} → sound start s ≡ true → Turn a₀ b l a i → sound b l ≡ true
+  turn-sound {i = i} ok t = rw (t .held .0, t .held .1) (sound-run (start .config) reading (callsTo x i) (state start s) (sound-state start s ok))
+
+  pub turn-more : {a₀ : List ℕ} {b : Breaker} {l a : List ℕ} {i : ℕ} → Turn a₀ b l a i → i < length a₀ → (t : Told) (b′ : Breaker) (l′ : List ℕ) (v : ℕ)
+      → after t b′ l′ ≡ kept (start .config) (finish (settings (start .config)) reading (callAt x i) (soFar i .after)) → v ≡ t .number → Turn a₀ b′ l′ (set a i v) (i + 1)
+  turn-more {a₀} {b} {l} {a} {i} turn h t b′ l′ v e n =
+      let o = finish (settings (start .config)) reading (callAt x i) (soFar i .after) in
+      let told′ : numbers (soFar (suc i) .answers) ≡ numbers (soFar i .answers) ++ (v ∷ []) =
+      ap (λ (r : Ran). numbers (r .answers)) (more i) ∙ numbers-more (soFar i .answers) (o .told)
+      ∙ ap (λ (m : ℕ). numbers (soFar i .answers) ++ (m ∷ [])) (sym (ap (λ (y : After). y .told .number) e) ∙ sym n) in
+      let put : set a i v ≡ numbers (soFar (suc i) .answers) ++ drop (suc i) a₀ =
+      ap (λ (y : List ℕ). set y i v) (turn .told ∙ ap (λ (y : List ℕ). numbers (soFar i .answers) ++ y) (drop-cons a₀ i 0 h))
+      ∙ set-at (numbers (soFar i .answers)) (getD a₀ i 0) (drop (suc i) a₀) v i (count i)
+      ∙ sym (append-snoc (numbers (soFar i .answers)) v (drop (suc i) a₀))
+      ∙ ap (λ (y : List ℕ). y ++ drop (suc i) a₀) (sym told′) in
+      let at : Holds (start .config) (soFar (suc i) .after) b′ l′ = (
+        ap (λ (y : After). y .breaker) e ∙ ap (λ (r : Ran). stored (start .config) (r .after)) (sym (more i)),
+        ap (λ (y : After). y .places) e ∙ ap (λ (r : Ran). padded (r .after .list)) (sym (more i)),
+      ) in
+      rw add-one (record { held = at; told = put })
+
+  pub turn-last : {a₀ : List ℕ} {b : Breaker} {l a : List ℕ} {i : ℕ} → Turn a₀ b l a i → i ≡ length (x .generations) → length a₀ ≤ i
+      → batch (after nothing b l) a ≡ (let ran = inTurn reading start s (calls x) in batch (kept (start .config) (done (ran .after))) (numbers (ran .answers)))
+  turn-last {a₀} {b} {l} {a} {i} turn e h =
+      ap₂ (λ (y : Breaker) (z : List ℕ). batch (after nothing y z) a) (turn .held .0) (turn .held .1)
+      ∙ ap (λ (y : List ℕ). batch (after nothing (stored (start .config) (soFar i .after)) (padded (soFar i .after .list))) y)
+      (turn .told ∙ ap (λ (y : List ℕ). numbers (soFar i .answers) ++ y) (drop-of-length-le a₀ {i = i} h) ∙ append-nil (numbers (soFar i .answers)))
+      ∙ ap (λ (n : ℕ). batch (kept (start .config) (done (soFar n .after))) (numbers (soFar n .answers))) e
+
+-- ---- the refusals
+module _ (reading : ℕ) (x : Slices) (b : Breaker) (s answers : List ℕ) where
+  pub batch-unlike : alike x answers ≡ false → batch (after (refused Storage) b s) answers ≡ finishedAll reading x b s answers
+  unfolding finishedAll
+  batch-unlike e = simp e
+
+  pub batch-storage : alike x answers ≡ true → (length s ≡ 4096 → ⊥) → batch (after (refused Storage) b s) answers ≡ finishedAll reading x b s answers
+  unfolding finishedAll
+  batch-storage e n = simp (e, ne-eqb (length s) 4096 n)
+
+  pub batch-refused : alike x answers ≡ true → length s ≡ 4096 → sound b s ≡ false → batch (after (refused Unsound) b s) answers ≡ finishedAll reading x b s answers
+  unfolding finishedAll
+  batch-refused e p k = simp (e, eq-eqb (length s) 4096 p, k)
+
+  pub batch-done : alike x answers ≡ true → sound b s ≡ true
+      → (let ran = inTurn reading b s (calls x) in batch (kept (b .config) (done (ran .after))) (numbers (ran .answers))) ≡ finishedAll reading x b s answers
+  unfolding finishedAll
+  batch-done e ok = simp (e, eq-eqb (length s) 4096 (sound-places b s ok), ok)

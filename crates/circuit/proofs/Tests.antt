@@ -1,0 +1,37 @@
+-- The last answer of each soundness test, where all tests before it have passed. Assumes nothing.
+use mathlib.Core.Path.{_≡_, sym}
+use mathlib.Core.Bool.{true}
+use mathlib.Core.List.{List}
+use Prim.Native.Nat.{ℕ, _≤_, _<_}
+use lib.Dec.{eqb}
+use borrow.Author.Tests.{eq-eqb, ne-eqb, le-leb, lt-ltb}
+use Rattle.history.specs.Items.{soundList}
+use Rattle.trip.specs.declared.Config.{Config}
+use Rattle.circuit.specs.declared.Shared.{Shared}
+use Rattle.circuit.specs.declared.Breaker.{Breaker}
+use Rattle.circuit.specs.Record.{HalfOpen, soundRatio, soundPolicy, soundConfig, soundShared, itemsOf, sound}
+
+module _ (c : Config) where
+  pub consecutive-last : c .kind ≡ 1 → 1 ≤ c .limit → c .«ratio_bits» ≡ 0 → c .«min_calls» ≡ 0 → eqb (c .«period_ms») 0 ≡ soundPolicy c
+  unfolding soundPolicy
+  consecutive-last k l r m = simp (eq-eqb _ _ k, le-leb _ _ l, eq-eqb _ _ r, eq-eqb _ _ m)
+
+  pub ratio-last : (c .kind ≡ 1 → ⊥) → c .kind ≡ 2 → 1 ≤ c .limit → c .limit ≤ 4096 → soundRatio (c .«ratio_bits») ≡ true → c .«min_calls» ≤ c .limit
+      → eqb (c .«period_ms») 0 ≡ soundPolicy c
+  unfolding soundPolicy
+  ratio-last n k l u r m = simp (ne-eqb _ _ n, eq-eqb _ _ k, le-leb _ _ l, le-leb _ _ u, r, le-leb _ _ m)
+
+  pub windowed-last : (c .kind ≡ 1 → ⊥) → (c .kind ≡ 2 → ⊥) → c .kind ≡ 3 → 1 ≤ c .limit → c .limit ≤ 4096 → c .«ratio_bits» ≡ 0
+      → eqb (c .«min_calls») 0 ≡ soundPolicy c
+  unfolding soundPolicy
+  windowed-last n m k l u r = simp (ne-eqb _ _ n, ne-eqb _ _ m, eq-eqb _ _ k, le-leb _ _ l, le-leb _ _ u, eq-eqb _ _ r)
+
+  pub shared-last : (h : Shared) → h .state ≤ 2 → h .inflight ≤ c .trials → h .successes < c .required → (h .state ≡ HalfOpen → ⊥) → h .inflight ≡ 0
+      → h .«trait_probes» ≡ 0 → eqb (h .successes) 0 ≡ soundShared c h
+  unfolding soundShared
+  shared-last h s i g n z t = simp (le-leb _ _ s, le-leb _ _ i, lt-ltb _ _ g, ne-eqb _ _ n, eq-eqb _ _ z, eq-eqb _ _ t)
+
+pub sound-last : (b : Breaker) (s : List ℕ) → soundPolicy (b .config) ≡ true → 1 ≤ b .config .required → b .config .required ≤ b .config .trials
+    → soundShared (b .config) (b .shared) ≡ true → soundList (itemsOf (b .config)) (b .shared .len) s ≡ sound b s
+unfolding sound soundConfig
+sound-last b s p r t h = simp (p, le-leb _ _ r, le-leb _ _ t, h)

@@ -1,0 +1,51 @@
+-- `circuit::calls::abort_as` meets its contract: the step, once the breaker is tested. Assumes nothing.
+use mathlib.Core.Path.{_≡_, refl, sym, ap, _∙_}
+use mathlib.Core.Bool.{true}
+use borrow.Author.Needs.{needs}
+use borrow.Author.Tests.{not-true, not-false}
+use Rattle.circuit.specs.Record.{state, sound}
+use Rattle.circuit.specs.Calls as Calls
+use Rattle.circuit.specs.Rules as Rules
+use Rattle.circuit.specs.Orders.{nothing}
+use Rattle.circuit.proofs.Guard.{holds, sound-storage, sound-refused, sound-done, sound-fields}
+use Rattle.circuit.proofs.calls.abort_as.Statement.{statement}
+use Rattle.circuit.proofs.calls.abort_as.Tie as tie
+
+returns : tie.Need-returns
+returns c = sound-storage (Calls.abortAs (c .before .before .args .ticket) (c .before .before .args .via-trait)) (c .before .before .args .breaker) (c .before .before .args .list .now) (c .if1 .taken)
+
+is-sound-requires : tie.Need-is-sound-requires
+is-sound-requires c κs = search needs
+
+same-length : tie.Need-same-length
+same-length c = search needs
+
+returns-2 : tie.Need-returns-2
+returns-2 c = sound-refused (Calls.abortAs (c .before .before .before .before .before .args .ticket) (c .before .before .before .before .before .args .via-trait)) (c .before .before .before .before .before .args .breaker) (c .before .before .before .before .before .args .list .now) (c .before .before .before .if1 .left) (sym (c .before .is-sound .ensures) ∙ not-true (c .before .is-sound .result) (c .if2 .taken))
+
+abort-locked-requires : tie.Need-abort-locked-requires
+abort-locked-requires c κs = search needs
+
+same-length-2 : tie.Need-same-length-2
+same-length-2 c = search needs
+
+tested : (c : tie.Else2) → sound (c .before .before .before .before .before .args .breaker) (c .before .before .before .before .before .args .list .now) ≡ true
+tested c = sym (c .before .is-sound .ensures) ∙ not-false (c .before .is-sound .result) (c .if2 .left)
+
+returns-3 : tie.Need-returns-3
+returns-3 c =
+    ap (Calls.after nothing (c .abort-locked .result)) (holds (c .before .before .before .before .before .before .args .breaker) (c .before .before .before .before .before .before .args .list .now) (tested (c .before)) .1)
+    ∙ sym (c .abort-locked .ensures (c .before .before .before .before .before .before .args .breaker .config) (state (c .before .before .before .before .before .before .args .breaker) (c .before .before .before .before .before .before .args .list .now)) 0 (holds (c .before .before .before .before .before .before .args .breaker) (c .before .before .before .before .before .before .args .list .now) (tested (c .before)) .0))
+    ∙ sound-done (Calls.abortAs (c .before .before .before .before .before .before .args .ticket) (c .before .before .before .before .before .before .args .via-trait)) (c .before .before .before .before .before .before .args .breaker) (c .before .before .before .before .before .before .args .list .now) (tested (c .before))
+
+pub abort-as-spec : {M : Type 1} → statement M
+abort-as-spec =
+    tie.close
+    (tie.spec
+    returns
+    is-sound-requires
+    same-length
+    returns-2
+    abort-locked-requires
+    same-length-2
+    returns-3)

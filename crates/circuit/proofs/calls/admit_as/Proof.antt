@@ -1,0 +1,68 @@
+-- `circuit::calls::admit_as` meets its contract: each answer of the step, once the breaker is tested. Assumes nothing.
+use mathlib.Core.Path.{_≡_, refl, sym, ap, _∙_}
+use mathlib.Core.Bool.{true}
+use borrow.Author.Needs.{needs}
+use borrow.Author.Tests.{not-true, not-false}
+use Rattle.circuit.specs.Record.{state, sound}
+use Rattle.circuit.specs.Calls as Calls
+use Rattle.circuit.specs.Rules as Rules
+use Rattle.circuit.proofs.Admitting.{admitted-shed, admitted-granted}
+use Rattle.circuit.proofs.Guard.{holds, sound-storage, sound-refused, sound-done, sound-fields}
+use Rattle.circuit.proofs.calls.admit_as.Statement.{statement}
+use Rattle.circuit.proofs.calls.admit_as.Tie as tie
+
+returns : tie.Need-returns
+returns c = sound-storage (Calls.admission (c .before .before .args .via-trait) (c .before .before .args .now-ms)) (c .before .before .args .breaker) (c .before .before .args .list .now) (c .if1 .taken)
+
+is-sound-requires : tie.Need-is-sound-requires
+is-sound-requires c κs = search needs
+
+same-length : tie.Need-same-length
+same-length c = search needs
+
+returns-2 : tie.Need-returns-2
+returns-2 c = sound-refused (Calls.admission (c .before .before .before .before .before .args .via-trait) (c .before .before .before .before .before .args .now-ms)) (c .before .before .before .before .before .args .breaker) (c .before .before .before .before .before .args .list .now) (c .before .before .before .if1 .left) (sym (c .before .is-sound .ensures) ∙ not-true (c .before .is-sound .result) (c .if2 .taken))
+
+admit-as-locked-requires : tie.Need-admit-as-locked-requires
+admit-as-locked-requires c κs = search needs
+
+enum-known-d : tie.Need-enum-known-d
+enum-known-d c = search needs
+
+enum-known-t : tie.Need-enum-known-t
+enum-known-t c = search needs
+
+same-length-2 : tie.Need-same-length-2
+same-length-2 c = search needs
+
+tested : (c : tie.Else2) → sound (c .before .before .before .before .before .args .breaker) (c .before .before .before .before .before .args .list .now) ≡ true
+tested c = sym (c .before .is-sound .ensures) ∙ not-false (c .before .is-sound .result) (c .if2 .left)
+
+returns-3 : tie.Need-returns-3
+returns-3 c =
+    admitted-shed (c .before .before .before .before .before .before .before .before .before .args .now-ms) (c .before .before .before .before .before .before .before .before .before .args .breaker) (c .before .before .before .before .before .before .before .before .before .args .list .now) (tested (c .before .before .before .before)) (c .before .before .before .before .before .before .before .before .before .args .via-trait) (c .before .d .given .0 .0) (sym (c .before .d .given .1) ∙ c .before .before .before .admit-as-locked .ensures (c .before .before .before .before .before .before .before .before .before .args .breaker .config) (state (c .before .before .before .before .before .before .before .before .before .args .breaker) (c .before .before .before .before .before .before .before .before .before .args .list .now)) (holds (c .before .before .before .before .before .before .before .before .before .args .breaker) (c .before .before .before .before .before .before .before .before .before .args .list .now) (tested (c .before .before .before .before)) .0))
+    ∙ sound-done (Calls.admission (c .before .before .before .before .before .before .before .before .before .args .via-trait) (c .before .before .before .before .before .before .before .before .before .args .now-ms)) (c .before .before .before .before .before .before .before .before .before .args .breaker) (c .before .before .before .before .before .before .before .before .before .args .list .now) (tested (c .before .before .before .before))
+
+same-length-3 : tie.Need-same-length-3
+same-length-3 c = search needs
+
+returns-4 : tie.Need-returns-4
+returns-4 c =
+    admitted-granted (c .before .before .before .before .before .before .before .before .before .args .now-ms) (c .before .before .before .before .before .before .before .before .before .args .breaker) (c .before .before .before .before .before .before .before .before .before .args .list .now) (tested (c .before .before .before .before)) (c .before .before .before .before .before .before .before .before .before .args .via-trait) (c .before .t .given .0 .0) (c .before .t .given .0 .1 .0) (sym (c .before .t .given .1) ∙ c .before .before .before .admit-as-locked .ensures (c .before .before .before .before .before .before .before .before .before .args .breaker .config) (state (c .before .before .before .before .before .before .before .before .before .args .breaker) (c .before .before .before .before .before .before .before .before .before .args .list .now)) (holds (c .before .before .before .before .before .before .before .before .before .args .breaker) (c .before .before .before .before .before .before .before .before .before .args .list .now) (tested (c .before .before .before .before)) .0))
+    ∙ sound-done (Calls.admission (c .before .before .before .before .before .before .before .before .before .args .via-trait) (c .before .before .before .before .before .before .before .before .before .args .now-ms)) (c .before .before .before .before .before .before .before .before .before .args .breaker) (c .before .before .before .before .before .before .before .before .before .args .list .now) (tested (c .before .before .before .before))
+
+pub admit-as-spec : {M : Type 1} → statement M
+admit-as-spec =
+    tie.close
+    (tie.spec
+    returns
+    is-sound-requires
+    same-length
+    returns-2
+    admit-as-locked-requires
+    enum-known-d
+    enum-known-t
+    same-length-2
+    returns-3
+    same-length-3
+    returns-4)

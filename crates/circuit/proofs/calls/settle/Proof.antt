@@ -1,0 +1,47 @@
+-- `circuit::calls::settle` meets its contract: the step, once the breaker is tested. Assumes nothing.
+use mathlib.Core.Path.{_≡_, refl, sym, ap, _∙_}
+use mathlib.Core.Bool.{true}
+use borrow.Author.Needs.{needs}
+use borrow.Author.Tests.{not-true, not-false}
+use Rattle.circuit.specs.Record.{state, sound}
+use Rattle.circuit.specs.Calls as Calls
+use Rattle.circuit.specs.Rules as Rules
+use Rattle.circuit.proofs.Guard.{holds, sound-storage, sound-refused, sound-done, sound-fields}
+use Rattle.circuit.proofs.calls.settle.Statement.{statement}
+use Rattle.circuit.proofs.calls.settle.Tie as tie
+
+returns : tie.Need-returns
+returns c = sound-storage (Calls.settle (c .before .before .args .now-ms) (c .before .before .args .ticket) (c .before .before .args .success)) (c .before .before .args .breaker) (c .before .before .args .list .now) (c .if1 .taken)
+
+is-sound-requires : tie.Need-is-sound-requires
+is-sound-requires c κs = search needs
+
+same-length : tie.Need-same-length
+same-length c = search needs
+
+returns-2 : tie.Need-returns-2
+returns-2 c = sound-refused (Calls.settle (c .before .before .before .before .before .args .now-ms) (c .before .before .before .before .before .args .ticket) (c .before .before .before .before .before .args .success)) (c .before .before .before .before .before .args .breaker) (c .before .before .before .before .before .args .list .now) (c .before .before .before .if1 .left) (sym (c .before .is-sound .ensures) ∙ not-true (c .before .is-sound .result) (c .if2 .taken))
+
+tested : (c : tie.Else2) → sound (c .before .before .before .before .before .args .breaker) (c .before .before .before .before .before .args .list .now) ≡ true
+tested c = sym (c .before .is-sound .ensures) ∙ not-false (c .before .is-sound .result) (c .if2 .left)
+
+settle-locked-requires : tie.Need-settle-locked-requires
+settle-locked-requires c κs = tested (c .before)
+
+same-length-2 : tie.Need-same-length-2
+same-length-2 c = search needs
+
+returns-3 : tie.Need-returns-3
+returns-3 c = c .before .before .settle-locked .ensures (c .before .before .before .before .before .before .before .before .before .args .breaker .config) (state (c .before .before .before .before .before .before .before .before .before .args .breaker) (c .before .before .before .before .before .before .before .before .before .args .list .now)) (holds (c .before .before .before .before .before .before .before .before .before .args .breaker) (c .before .before .before .before .before .before .before .before .before .args .list .now) (tested (c .before .before .before .before))) ∙ sound-done (Calls.settle (c .before .before .before .before .before .before .before .before .before .args .now-ms) (c .before .before .before .before .before .before .before .before .before .args .ticket) (c .before .before .before .before .before .before .before .before .before .args .success)) (c .before .before .before .before .before .before .before .before .before .args .breaker) (c .before .before .before .before .before .before .before .before .before .args .list .now) (tested (c .before .before .before .before))
+
+pub settle-spec : {M : Type 1} → statement M
+settle-spec =
+    tie.close
+    (tie.spec
+    returns
+    is-sound-requires
+    same-length
+    returns-2
+    settle-locked-requires
+    same-length-2
+    returns-3)

@@ -1,0 +1,69 @@
+-- `circuit::calls::still_admits` meets its contract: each answer from the tests on its way. Assumes nothing.
+use mathlib.Core.Path.{_≡_, refl, sym, ap, _∙_}
+use mathlib.Core.Bool.{true}
+use borrow.Author.Needs.{needs}
+use borrow.Author.Tests.{not-true, not-false}
+use Rattle.circuit.specs.Record.{state, sound}
+use Rattle.circuit.specs.Calls as Calls
+use Rattle.circuit.specs.Rules as Rules
+use Rattle.error.specs.Told.{Told, tell}
+use Rattle.circuit.specs.declared.Delay.{Delay}
+use Rattle.circuit.specs.Answers.{delayOf, delayValues}
+use Rattle.circuit.proofs.Queries.{still-same, still-closed, still-open, still-half}
+use Rattle.circuit.proofs.Guard.{holds, asked-storage, asked-refused, asked-done}
+use Rattle.circuit.proofs.calls.still_admits.Statement.{statement}
+use Rattle.circuit.proofs.calls.still_admits.Tie as tie
+
+returns : tie.Need-returns
+returns c = asked-storage (λ s st. Rules.stillAdmits (c .before .before .args .now-ms) (c .before .before .args .ticket) st) (c .before .before .args .breaker) (c .before .before .args .list .now) (c .if1 .taken)
+
+is-sound-requires : tie.Need-is-sound-requires
+is-sound-requires c κs = search needs
+
+returns-2 : tie.Need-returns-2
+returns-2 c = asked-refused (λ s st. Rules.stillAdmits (c .before .before .before .before .args .now-ms) (c .before .before .before .before .args .ticket) st) (c .before .before .before .before .args .breaker) (c .before .before .before .before .args .list .now) (c .before .before .if1 .left) (sym (c .before .is-sound .ensures) ∙ not-true (c .before .is-sound .result) (c .if2 .taken))
+
+tested : (c : tie.Else2) → sound (c .before .before .before .before .args .breaker) (c .before .before .before .before .args .list .now) ≡ true
+tested c = sym (c .before .is-sound .ensures) ∙ not-false (c .before .is-sound .result) (c .if2 .left)
+
+returns-3 : tie.Need-returns-3
+returns-3 c = still-same (c .before .before .before .before .before .before .before .before .args .now-ms) (c .before .before .before .before .before .before .before .before .args .ticket) (state (c .before .before .before .before .before .before .before .before .args .breaker) (c .before .before .before .before .before .before .before .before .args .list .now)) (c .if3 .taken) ∙ asked-done (λ s st. Rules.stillAdmits (c .before .before .before .before .before .before .before .before .args .now-ms) (c .before .before .before .before .before .before .before .before .args .ticket) st) (c .before .before .before .before .before .before .before .before .args .breaker) (c .before .before .before .before .before .before .before .before .args .list .now) (tested (c .before .before .before .before))
+
+returns-4 : tie.Need-returns-4
+returns-4 c = still-closed (c .before .before .before .before .before .before .before .before .before .before .args .now-ms) (c .before .before .before .before .before .before .before .before .before .before .args .ticket) (state (c .before .before .before .before .before .before .before .before .before .before .args .breaker) (c .before .before .before .before .before .before .before .before .before .before .args .list .now)) (c .before .before .if3 .left) (c .if4 .taken) ∙ asked-done (λ s st. Rules.stillAdmits (c .before .before .before .before .before .before .before .before .before .before .args .now-ms) (c .before .before .before .before .before .before .before .before .before .before .args .ticket) st) (c .before .before .before .before .before .before .before .before .before .before .args .breaker) (c .before .before .before .before .before .before .before .before .before .before .args .list .now) (tested (c .before .before .before .before .before .before))
+
+cutoff-requires : tie.Need-cutoff-requires
+cutoff-requires c κs = search needs
+
+delayed-requires : tie.Need-delayed-requires
+delayed-requires c κs = search needs
+
+returns-5 : tie.Need-returns-5
+returns-5 c =
+    ap (λ (d : Delay). tell 6 (delayValues d)) (c .delayed .ensures ∙ ap delayOf (c .before .cutoff .ensures))
+    ∙ still-open (c .before .before .before .before .before .before .before .before .before .before .before .before .before .before .args .now-ms) (c .before .before .before .before .before .before .before .before .before .before .before .before .before .before .args .ticket) (state (c .before .before .before .before .before .before .before .before .before .before .before .before .before .before .args .breaker) (c .before .before .before .before .before .before .before .before .before .before .before .before .before .before .args .list .now)) (c .before .before .before .before .before .before .if3 .left) (c .before .before .before .before .if4 .left) (c .before .before .if5 .taken)
+    ∙ asked-done (λ s st. Rules.stillAdmits (c .before .before .before .before .before .before .before .before .before .before .before .before .before .before .args .now-ms) (c .before .before .before .before .before .before .before .before .before .before .before .before .before .before .args .ticket) st) (c .before .before .before .before .before .before .before .before .before .before .before .before .before .before .args .breaker) (c .before .before .before .before .before .before .before .before .before .before .before .before .before .before .args .list .now) (tested (c .before .before .before .before .before .before .before .before .before .before))
+
+delayed-requires-2 : tie.Need-delayed-requires-2
+delayed-requires-2 c κs = search needs
+
+returns-6 : tie.Need-returns-6
+returns-6 c =
+    ap (λ (d : Delay). tell 6 (delayValues d)) (c .delayed2 .ensures)
+    ∙ still-half (c .before .before .before .before .before .before .before .before .before .before .before .before .before .args .now-ms) (c .before .before .before .before .before .before .before .before .before .before .before .before .before .args .ticket) (state (c .before .before .before .before .before .before .before .before .before .before .before .before .before .args .breaker) (c .before .before .before .before .before .before .before .before .before .before .before .before .before .args .list .now)) (c .before .before .before .before .before .if3 .left) (c .before .before .before .if4 .left) (c .before .if5 .left)
+    ∙ asked-done (λ s st. Rules.stillAdmits (c .before .before .before .before .before .before .before .before .before .before .before .before .before .args .now-ms) (c .before .before .before .before .before .before .before .before .before .before .before .before .before .args .ticket) st) (c .before .before .before .before .before .before .before .before .before .before .before .before .before .args .breaker) (c .before .before .before .before .before .before .before .before .before .before .before .before .before .args .list .now) (tested (c .before .before .before .before .before .before .before .before .before))
+
+pub still-admits-spec : {M : Type 1} → statement M
+still-admits-spec =
+    tie.close
+    (tie.spec
+    returns
+    is-sound-requires
+    returns-2
+    returns-3
+    returns-4
+    cutoff-requires
+    delayed-requires
+    returns-5
+    delayed-requires-2
+    returns-6)

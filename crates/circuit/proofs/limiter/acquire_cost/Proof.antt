@@ -1,0 +1,115 @@
+-- `circuit::limiter::acquire_cost` meets its contract: each answer of the admission with the inner reply. Assumes nothing.
+use mathlib.Core.Path.{_≡_, refl, sym, ap, _∙_}
+use mathlib.Core.Bool.{true}
+use borrow.Author.Needs.{needs}
+use borrow.Author.Tests.{not-true, not-false}
+use Rattle.circuit.specs.Record.{state, sound}
+use Rattle.circuit.specs.Calls as Calls
+use Rattle.circuit.specs.Rules as Rules
+use mathlib.Core.List.{[], _∷_}
+use Rattle.error.specs.Told.{Told, tell}
+use Rattle.circuit.specs.declared.Decision.{Decision}
+use Rattle.circuit.specs.declared.Decision.the-variants.{Retry}
+use Rattle.circuit.specs.declared.Delay.{Delay}
+use Rattle.circuit.specs.Record.{settings}
+use Rattle.circuit.specs.Answers.{decisionValues}
+use Rattle.circuit.proofs.Admitting.{handed-shed, handed-on, handed-back}
+use Rattle.circuit.proofs.Guard.{holds, sound-storage, sound-refused, sound-done, sound-fields}
+use Rattle.circuit.proofs.limiter.acquire_cost.Statement.{statement}
+use Rattle.circuit.proofs.limiter.acquire_cost.Tie as tie
+
+returns : tie.Need-returns
+returns c = sound-storage (Calls.acquireCost (c .before .before .args .inner) (c .before .before .args .now-ms)) (c .before .before .args .breaker) (c .before .before .args .list .now) (c .if1 .taken)
+
+is-sound-requires : tie.Need-is-sound-requires
+is-sound-requires c κs = search needs
+
+same-length : tie.Need-same-length
+same-length c = search needs
+
+returns-2 : tie.Need-returns-2
+returns-2 c = sound-refused (Calls.acquireCost (c .before .before .before .before .before .args .inner) (c .before .before .before .before .before .args .now-ms)) (c .before .before .before .before .before .args .breaker) (c .before .before .before .before .before .args .list .now) (c .before .before .before .if1 .left) (sym (c .before .is-sound .ensures) ∙ not-true (c .before .is-sound .result) (c .if2 .taken))
+
+admit-as-locked-requires : tie.Need-admit-as-locked-requires
+admit-as-locked-requires c κs = search needs
+
+enum-known-d : tie.Need-enum-known-d
+enum-known-d c = search needs
+
+enum-known-t : tie.Need-enum-known-t
+enum-known-t c = search needs
+
+enum-told : tie.Need-enum-told
+enum-told c = search needs
+
+enum-told-2 : tie.Need-enum-told-2
+enum-told-2 c = search needs
+
+abort-locked-requires : tie.Need-abort-locked-requires
+abort-locked-requires c κs = search needs
+
+enum-told-3 : tie.Need-enum-told-3
+enum-told-3 c = search needs
+
+abort-locked-requires-2 : tie.Need-abort-locked-requires-2
+abort-locked-requires-2 c κs = search needs
+
+same-length-2 : tie.Need-same-length-2
+same-length-2 c = search needs
+
+tested : (c : tie.Else2) → sound (c .before .before .before .before .before .args .breaker) (c .before .before .before .before .before .args .list .now) ≡ true
+tested c = sym (c .before .is-sound .ensures) ∙ not-false (c .before .is-sound .result) (c .if2 .left)
+
+returns-3 : tie.Need-returns-3
+returns-3 c =
+    handed-shed (c .before .before .before .before .before .before .before .before .before .args .now-ms) (c .before .before .before .before .before .before .before .before .before .args .breaker) (c .before .before .before .before .before .before .before .before .before .args .list .now) (tested (c .before .before .before .before)) (λ a. Calls.acquireInner (c .before .before .before .before .before .before .before .before .before .args .inner) (c .before .before .before .before .before .before .before .before .before .args .now-ms) (settings (c .before .before .before .before .before .before .before .before .before .args .breaker .config)) a (state (c .before .before .before .before .before .before .before .before .before .args .breaker) (c .before .before .before .before .before .before .before .before .before .args .list .now))) (tell 0 (decisionValues (Retry (c .before .d .given .0 .0)))) Calls.retry (λ ms. refl) (c .before .d .given .0 .0) (sym (c .before .d .given .1) ∙ c .before .before .before .admit-as-locked .ensures (c .before .before .before .before .before .before .before .before .before .args .breaker .config) (state (c .before .before .before .before .before .before .before .before .before .args .breaker) (c .before .before .before .before .before .before .before .before .before .args .list .now)) (holds (c .before .before .before .before .before .before .before .before .before .args .breaker) (c .before .before .before .before .before .before .before .before .before .args .list .now) (tested (c .before .before .before .before)) .0)) (λ ms r. ap (λ (x : Delay). tell 0 (decisionValues (Retry x))) r)
+    ∙ sound-done (Calls.acquireCost (c .before .before .before .before .before .before .before .before .before .args .inner) (c .before .before .before .before .before .before .before .before .before .args .now-ms)) (c .before .before .before .before .before .before .before .before .before .args .breaker) (c .before .before .before .before .before .before .before .before .before .args .list .now) (tested (c .before .before .before .before))
+
+same-length-3 : tie.Need-same-length-3
+same-length-3 c = search needs
+
+returns-4 : tie.Need-returns-4
+returns-4 c = handed-on (c .before .before .before .before .before .before .before .before .before .before .before .args .now-ms) (c .before .before .before .before .before .before .before .before .before .before .before .args .breaker) (c .before .before .before .before .before .before .before .before .before .before .before .args .list .now) (tested (c .before .before .before .before .before .before)) (λ a. Calls.acquireInner (c .before .before .before .before .before .before .before .before .before .before .before .args .inner) (c .before .before .before .before .before .before .before .before .before .before .before .args .now-ms) (settings (c .before .before .before .before .before .before .before .before .before .before .before .args .breaker .config)) a (state (c .before .before .before .before .before .before .before .before .before .before .before .args .breaker) (c .before .before .before .before .before .before .before .before .before .before .before .args .list .now))) (tell 0 (decisionValues (c .before .before .before .before .before .before .before .before .before .before .before .args .inner))) (c .before .before .before .t .given .0 .0) (c .before .before .before .t .given .0 .1 .0) (sym (c .before .before .before .t .given .1) ∙ c .before .before .before .before .before .admit-as-locked .ensures (c .before .before .before .before .before .before .before .before .before .before .before .args .breaker .config) (state (c .before .before .before .before .before .before .before .before .before .before .before .args .breaker) (c .before .before .before .before .before .before .before .before .before .before .before .args .list .now)) (holds (c .before .before .before .before .before .before .before .before .before .before .before .args .breaker) (c .before .before .before .before .before .before .before .before .before .before .before .args .list .now) (tested (c .before .before .before .before .before .before)) .0)) (λ st′. ap (λ (i : Decision). Calls.handedOn (Calls.isAcquired i) (tell 0 (decisionValues (c .before .before .before .before .before .before .before .before .before .before .before .args .inner))) (c .before .before .before .before .before .before .before .before .before .before .before .args .now-ms) (settings (c .before .before .before .before .before .before .before .before .before .before .before .args .breaker .config)) (c .before .before .before .t .given .0 .0) st′) (c .enum-told .given .1)) ∙ sound-done (Calls.acquireCost (c .before .before .before .before .before .before .before .before .before .before .before .args .inner) (c .before .before .before .before .before .before .before .before .before .before .before .args .now-ms)) (c .before .before .before .before .before .before .before .before .before .before .before .args .breaker) (c .before .before .before .before .before .before .before .before .before .before .before .args .list .now) (tested (c .before .before .before .before .before .before))
+
+same-length-4 : tie.Need-same-length-4
+same-length-4 c = search needs
+
+returns-5 : tie.Need-returns-5
+returns-5 c =
+    handed-back (c .before .before .before .before .before .before .before .before .before .before .before .before .args .now-ms) (c .before .before .before .before .before .before .before .before .before .before .before .before .args .breaker) (c .before .before .before .before .before .before .before .before .before .before .before .before .args .list .now) (tested (c .before .before .before .before .before .before .before)) (λ a. Calls.acquireInner (c .before .before .before .before .before .before .before .before .before .before .before .before .args .inner) (c .before .before .before .before .before .before .before .before .before .before .before .before .args .now-ms) (settings (c .before .before .before .before .before .before .before .before .before .before .before .before .args .breaker .config)) a (state (c .before .before .before .before .before .before .before .before .before .before .before .before .args .breaker) (c .before .before .before .before .before .before .before .before .before .before .before .before .args .list .now))) (tell 0 (decisionValues (c .before .before .before .before .before .before .before .before .before .before .before .before .args .inner))) (c .before .before .before .before .t .given .0 .0) (c .before .before .before .before .t .given .0 .1 .0) (sym (c .before .before .before .before .t .given .1) ∙ c .before .before .before .before .before .before .admit-as-locked .ensures (c .before .before .before .before .before .before .before .before .before .before .before .before .args .breaker .config) (state (c .before .before .before .before .before .before .before .before .before .before .before .before .args .breaker) (c .before .before .before .before .before .before .before .before .before .before .before .before .args .list .now)) (holds (c .before .before .before .before .before .before .before .before .before .before .before .before .args .breaker) (c .before .before .before .before .before .before .before .before .before .before .before .before .args .list .now) (tested (c .before .before .before .before .before .before .before)) .0)) (c .abort-locked .result) (λ st′ q. c .abort-locked .ensures (c .before .before .before .before .before .before .before .before .before .before .before .before .args .breaker .config) st′ (c .before .before .before .before .before .before .before .before .before .before .before .before .args .now-ms) q)
+    (λ st′. ap (λ (i : Decision). Calls.handedOn (Calls.isAcquired i) (tell 0 (decisionValues (c .before .before .before .before .before .before .before .before .before .before .before .before .args .inner))) (c .before .before .before .before .before .before .before .before .before .before .before .before .args .now-ms) (settings (c .before .before .before .before .before .before .before .before .before .before .before .before .args .breaker .config)) (c .before .before .before .before .t .given .0 .0) st′) (c .before .enum-told2 .given .1))
+    ∙ sound-done (Calls.acquireCost (c .before .before .before .before .before .before .before .before .before .before .before .before .args .inner) (c .before .before .before .before .before .before .before .before .before .before .before .before .args .now-ms)) (c .before .before .before .before .before .before .before .before .before .before .before .before .args .breaker) (c .before .before .before .before .before .before .before .before .before .before .before .before .args .list .now) (tested (c .before .before .before .before .before .before .before))
+
+same-length-5 : tie.Need-same-length-5
+same-length-5 c = search needs
+
+returns-6 : tie.Need-returns-6
+returns-6 c =
+    handed-back (c .before .before .before .before .before .before .before .before .before .before .before .before .args .now-ms) (c .before .before .before .before .before .before .before .before .before .before .before .before .args .breaker) (c .before .before .before .before .before .before .before .before .before .before .before .before .args .list .now) (tested (c .before .before .before .before .before .before .before)) (λ a. Calls.acquireInner (c .before .before .before .before .before .before .before .before .before .before .before .before .args .inner) (c .before .before .before .before .before .before .before .before .before .before .before .before .args .now-ms) (settings (c .before .before .before .before .before .before .before .before .before .before .before .before .args .breaker .config)) a (state (c .before .before .before .before .before .before .before .before .before .before .before .before .args .breaker) (c .before .before .before .before .before .before .before .before .before .before .before .before .args .list .now))) (tell 0 (decisionValues (c .before .before .before .before .before .before .before .before .before .before .before .before .args .inner))) (c .before .before .before .before .t .given .0 .0) (c .before .before .before .before .t .given .0 .1 .0) (sym (c .before .before .before .before .t .given .1) ∙ c .before .before .before .before .before .before .admit-as-locked .ensures (c .before .before .before .before .before .before .before .before .before .before .before .before .args .breaker .config) (state (c .before .before .before .before .before .before .before .before .before .before .before .before .args .breaker) (c .before .before .before .before .before .before .before .before .before .before .before .before .args .list .now)) (holds (c .before .before .before .before .before .before .before .before .before .before .before .before .args .breaker) (c .before .before .before .before .before .before .before .before .before .before .before .before .args .list .now) (tested (c .before .before .before .before .before .before .before)) .0)) (c .abort-locked2 .result) (λ st′ q. c .abort-locked2 .ensures (c .before .before .before .before .before .before .before .before .before .before .before .before .args .breaker .config) st′ (c .before .before .before .before .before .before .before .before .before .before .before .before .args .now-ms) q)
+    (λ st′. ap (λ (i : Decision). Calls.handedOn (Calls.isAcquired i) (tell 0 (decisionValues (c .before .before .before .before .before .before .before .before .before .before .before .before .args .inner))) (c .before .before .before .before .before .before .before .before .before .before .before .before .args .now-ms) (settings (c .before .before .before .before .before .before .before .before .before .before .before .before .args .breaker .config)) (c .before .before .before .before .t .given .0 .0) st′) (c .before .enum-told3 .given .1))
+    ∙ sound-done (Calls.acquireCost (c .before .before .before .before .before .before .before .before .before .before .before .before .args .inner) (c .before .before .before .before .before .before .before .before .before .before .before .before .args .now-ms)) (c .before .before .before .before .before .before .before .before .before .before .before .before .args .breaker) (c .before .before .before .before .before .before .before .before .before .before .before .before .args .list .now) (tested (c .before .before .before .before .before .before .before))
+
+pub acquire-cost-spec : {M : Type 1} → statement M
+acquire-cost-spec =
+    tie.close
+    (tie.spec
+    returns
+    is-sound-requires
+    same-length
+    returns-2
+    admit-as-locked-requires
+    enum-known-d
+    enum-known-t
+    enum-told
+    enum-told-2
+    abort-locked-requires
+    enum-told-3
+    abort-locked-requires-2
+    same-length-2
+    returns-3
+    same-length-3
+    returns-4
+    same-length-4
+    returns-5
+    same-length-5
+    returns-6)

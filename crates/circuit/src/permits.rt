@@ -1,0 +1,61 @@
+// Permits: a ticket with what its call came to. Each is the call that the Rust's Permit makes.
+ghost use mathlib.Core.Path.{_≡_};
+ghost use mathlib.Core.Bool.{true, false};
+ghost use Rattle.circuit.specs.Answers.{finishedTold, noticeTold};
+ghost use Rattle.circuit.specs.Calls as Calls;
+ghost use Rattle.circuit.specs.Calls.{after, onSound};
+use crate::Breaker;
+use crate::Finished;
+use crate::Notice;
+use crate::Noticed;
+use crate::Settled;
+use crate::Ticket;
+use crate::abort_locked;
+use crate::is_sound;
+use crate::settle;
+use error::Refusal;
+
+// Ruled out: a success counted as a failure; one that needs a probe.
+pub fn permit_success(breaker: Breaker, list: &mut [u64], now_ms: u64, ticket: Ticket) -> Settled
+    ensures { λ r. ⌜ after (finishedTold (r .answer)) (r .breaker) (now (list .exit)) ≡ onSound (Calls.settle «now_ms» ticket true) breaker (now (list .entry)) ⌝ }
+{
+    settle(breaker, list, now_ms, ticket, true)
+}
+
+// Ruled out: a failure counted as a success; one that ignores the reading.
+pub fn permit_failure(breaker: Breaker, list: &mut [u64], now_ms: u64, ticket: Ticket) -> Settled
+    ensures { λ r. ⌜ after (finishedTold (r .answer)) (r .breaker) (now (list .exit)) ≡ onSound (Calls.settle «now_ms» ticket false) breaker (now (list .entry)) ⌝ }
+{
+    settle(breaker, list, now_ms, ticket, false)
+}
+
+// A permit that was dropped unsettled: a failure.
+// Ruled out: a drop that records nothing; one that aborts.
+pub fn permit_dropped(breaker: Breaker, list: &mut [u64], now_ms: u64, ticket: Ticket) -> Settled
+    ensures { λ r. ⌜ after (finishedTold (r .answer)) (r .breaker) (now (list .exit)) ≡ onSound (Calls.settle «now_ms» ticket false) breaker (now (list .entry)) ⌝ }
+{
+    settle(breaker, list, now_ms, ticket, false)
+}
+
+// Gives the admission back, with a notice to refund 1 to the inner limiter.
+// Ruled out: no notice for a stale ticket; an outcome recorded.
+pub fn permit_cancel(breaker: Breaker, list: &mut [u64], ticket: Ticket) -> Noticed
+    ensures { λ r. ⌜ after (noticeTold (r .answer)) (r .breaker) (now (list .exit)) ≡ onSound (Calls.cancel ticket) breaker (now (list .entry)) ⌝ }
+{
+    if list.len() != 4096 {
+        return Noticed {
+            answer: Notice::Refused(Refusal::Storage),
+            breaker,
+        };
+    }
+    if !is_sound(breaker, list) {
+        return Noticed {
+            answer: Notice::Refused(Refusal::Unsound),
+            breaker,
+        };
+    }
+    Noticed {
+        answer: Notice::Refund(1),
+        breaker: abort_locked(breaker, ticket, false),
+    }
+}
