@@ -16,3 +16,4 @@ pub mod Admitting
 pub mod Queries
 pub mod Sequences
 pub mod OneToOne
+pub mod Rows

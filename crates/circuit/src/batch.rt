@@ -14,9 +14,9 @@ use crate::Breaker;
 use crate::Finished;
 use crate::Settled;
 use crate::Ticket;
-use crate::abort_locked;
 use crate::is_sound;
-use crate::settle_locked;
+use crate::outcome::abort_locked;
+use crate::outcome::settle_locked;
 use error::Refusal;
 
 fn number_of(answer: Finished) -> u64

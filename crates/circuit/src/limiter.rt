@@ -14,11 +14,11 @@ use crate::Noticed;
 use crate::Reservation;
 use crate::Reserved;
 use crate::Reserving;
-use crate::abort_locked;
-use crate::admit_as_locked;
-use crate::admit_locked;
+use crate::admit::admit_as_locked;
+use crate::admit::admit_locked;
 use crate::is_sound;
-use crate::release_locked;
+use crate::outcome::abort_locked;
+use crate::outcome::release_locked;
 use error::Refusal;
 
 // The verdict without a transition, else the inner limiter's peek.

@@ -10,8 +10,8 @@ use crate::Notice;
 use crate::Noticed;
 use crate::Settled;
 use crate::Ticket;
-use crate::abort_locked;
 use crate::is_sound;
+use crate::outcome::abort_locked;
 use crate::settle;
 use error::Refusal;
 

@@ -1,0 +1,84 @@
+-- `circuit::sound::sound_policy` meets its contract: each `return` is what the tests on its way make of the definition. Assumes nothing.
+use mathlib.Core.Path.{_≡_, refl, sym, ap, _∙_}
+use borrow.Author.Needs.{needs}
+use borrow.Author.Tests.{eq-eqb, ne-eqb, le-leb, lt-leb, lt-ltb, le-ltb, not-true, not-false}
+use Rattle.circuit.specs.Record.{soundPolicy}
+use Rattle.circuit.proofs.Tests.{consecutive-last, ratio-last, windowed-last}
+use Rattle.circuit.proofs.sound.sound_policy.Statement.{statement}
+use Rattle.circuit.proofs.sound.sound_policy.Tie as tie
+
+returns : tie.Need-returns
+unfolding soundPolicy
+returns c = simp (eq-eqb _ _ (c .before .before .if1 .taken), lt-leb _ _ (c .if2 .taken))
+
+returns-2 : tie.Need-returns-2
+unfolding soundPolicy
+returns-2 c = simp (eq-eqb _ _ (c .before .before .before .before .if1 .taken), le-leb _ _ (c .before .before .if2 .left), ne-eqb _ _ (c .if3 .taken))
+
+returns-3 : tie.Need-returns-3
+unfolding soundPolicy
+returns-3 c = simp (eq-eqb _ _ (c .before .before .before .before .before .before .if1 .taken), le-leb _ _ (c .before .before .before .before .if2 .left), eq-eqb _ _ (c .before .before .if3 .left), ne-eqb _ _ (c .if4 .taken))
+
+returns-4 : tie.Need-returns-4
+returns-4 c = consecutive-last (c .before .before .before .before .before .before .before .before .before .args .c) (c .before .before .before .before .before .before .before .if1 .taken) (c .before .before .before .before .before .if2 .left) (c .before .before .before .if3 .left) (c .before .if4 .left)
+
+returns-5 : tie.Need-returns-5
+unfolding soundPolicy
+returns-5 c = simp (ne-eqb _ _ (c .before .before .before .before .if1 .left), eq-eqb _ _ (c .before .before .if5 .taken), lt-leb _ _ (c .if6 .taken))
+
+returns-6 : tie.Need-returns-6
+unfolding soundPolicy
+returns-6 c = simp (ne-eqb _ _ (c .before .before .before .before .before .before .if1 .left), eq-eqb _ _ (c .before .before .before .before .if5 .taken), le-leb _ _ (c .before .before .if6 .left), lt-leb _ _ (c .if7 .taken))
+
+sound-ratio-requires : tie.Need-sound-ratio-requires
+sound-ratio-requires c κs = search needs
+
+returns-7 : tie.Need-returns-7
+unfolding soundPolicy
+returns-7 c = simp (ne-eqb _ _ (c .before .before .before .before .before .before .before .before .if1 .left), eq-eqb _ _ (c .before .before .before .before .before .before .if5 .taken), le-leb _ _ (c .before .before .before .before .if6 .left), le-leb _ _ (c .before .before .if7 .left), ← c .before .sound-ratio .ensures, not-true (c .before .sound-ratio .result) (c .if8 .taken))
+
+returns-8 : tie.Need-returns-8
+unfolding soundPolicy
+returns-8 c = simp (ne-eqb _ _ (c .before .before .before .before .before .before .before .before .before .before .if1 .left), eq-eqb _ _ (c .before .before .before .before .before .before .before .before .if5 .taken), le-leb _ _ (c .before .before .before .before .before .before .if6 .left), le-leb _ _ (c .before .before .before .before .if7 .left), ← c .before .before .before .sound-ratio .ensures, not-false (c .before .before .before .sound-ratio .result) (c .before .before .if8 .left), lt-leb _ _ (c .if9 .taken))
+
+returns-9 : tie.Need-returns-9
+returns-9 c = ratio-last (c .before .before .before .before .before .before .before .before .before .before .before .before .before .args .c) (c .before .before .before .before .before .before .before .before .before .before .before .if1 .left) (c .before .before .before .before .before .before .before .before .before .if5 .taken) (c .before .before .before .before .before .before .before .if6 .left) (c .before .before .before .before .before .if7 .left) (sym (c .before .before .before .before .sound-ratio .ensures) ∙ not-false (c .before .before .before .before .sound-ratio .result) (c .before .before .before .if8 .left)) (c .before .if9 .left)
+
+returns-10 : tie.Need-returns-10
+unfolding soundPolicy
+returns-10 c = simp (ne-eqb _ _ (c .before .before .before .before .if1 .left), ne-eqb _ _ (c .before .before .if5 .left), ne-eqb _ _ (c .if10 .taken))
+
+returns-11 : tie.Need-returns-11
+unfolding soundPolicy
+returns-11 c = simp (ne-eqb _ _ (c .before .before .before .before .before .before .if1 .left), ne-eqb _ _ (c .before .before .before .before .if5 .left), eq-eqb _ _ (c .before .before .if10 .left), lt-leb _ _ (c .if11 .taken))
+
+returns-12 : tie.Need-returns-12
+unfolding soundPolicy
+returns-12 c = simp (ne-eqb _ _ (c .before .before .before .before .before .before .before .before .if1 .left), ne-eqb _ _ (c .before .before .before .before .before .before .if5 .left), eq-eqb _ _ (c .before .before .before .before .if10 .left), le-leb _ _ (c .before .before .if11 .left), lt-leb _ _ (c .if12 .taken))
+
+returns-13 : tie.Need-returns-13
+unfolding soundPolicy
+returns-13 c = simp (ne-eqb _ _ (c .before .before .before .before .before .before .before .before .before .before .if1 .left), ne-eqb _ _ (c .before .before .before .before .before .before .before .before .if5 .left), eq-eqb _ _ (c .before .before .before .before .before .before .if10 .left), le-leb _ _ (c .before .before .before .before .if11 .left), le-leb _ _ (c .before .before .if12 .left), ne-eqb _ _ (c .if13 .taken))
+
+returns-14 : tie.Need-returns-14
+returns-14 c = windowed-last (c .before .before .before .before .before .before .before .before .before .before .before .before .before .args .c) (c .before .before .before .before .before .before .before .before .before .before .before .if1 .left) (c .before .before .before .before .before .before .before .before .before .if5 .left) (c .before .before .before .before .before .before .before .if10 .left) (c .before .before .before .before .before .if11 .left) (c .before .before .before .if12 .left) (c .before .if13 .left)
+
+pub sound-policy-spec : {M : Type 1} → statement M
+sound-policy-spec =
+    tie.close
+    (tie.spec
+    returns
+    returns-2
+    returns-3
+    returns-4
+    returns-5
+    returns-6
+    sound-ratio-requires
+    returns-7
+    returns-8
+    returns-9
+    returns-10
+    returns-11
+    returns-12
+    returns-13
+    returns-14)

@@ -1,0 +1,100 @@
+// The tests behind "sound", over the record alone.
+ghost use mathlib.Core.Path.{_≡_};
+ghost use Rattle.circuit.specs.Record.{soundRatio, soundPolicy, soundShared, itemsOf};
+use crate::Shared;
+use history::Items;
+use trip::Config;
+
+pub(crate) fn sound_ratio(bits: u64) -> bool
+    ensures { λ r. ⌜ r ≡ soundRatio bits ⌝ }
+{
+    if bits % 0x8000_0000_0000_0000 > 0x7ff0_0000_0000_0000 {
+        return false;
+    }
+    let ratio = f64::from_bits(bits);
+    if 0.0 <= ratio {
+        return ratio <= 1.0;
+    }
+    false
+}
+
+pub(crate) fn sound_policy(c: Config) -> bool
+    ensures { λ r. ⌜ r ≡ soundPolicy c ⌝ }
+{
+    if c.kind == 1 {
+        if c.limit < 1 {
+            return false;
+        }
+        if c.ratio_bits != 0 {
+            return false;
+        }
+        if c.min_calls != 0 {
+            return false;
+        }
+        return c.period_ms == 0;
+    }
+    if c.kind == 2 {
+        if c.limit < 1 {
+            return false;
+        }
+        if 4096 < c.limit {
+            return false;
+        }
+        if !sound_ratio(c.ratio_bits) {
+            return false;
+        }
+        if c.limit < c.min_calls {
+            return false;
+        }
+        return c.period_ms == 0;
+    }
+    if c.kind != 3 {
+        return false;
+    }
+    if c.limit < 1 {
+        return false;
+    }
+    if 4096 < c.limit {
+        return false;
+    }
+    if c.ratio_bits != 0 {
+        return false;
+    }
+    c.min_calls == 0
+}
+
+pub(crate) fn sound_shared(c: Config, h: Shared) -> bool
+    ensures { λ r. ⌜ r ≡ soundShared c h ⌝ }
+{
+    if 2 < h.state {
+        return false;
+    }
+    if c.trials < h.inflight {
+        return false;
+    }
+    if h.successes >= c.required {
+        return false;
+    }
+    if h.state == 1 {
+        return true;
+    }
+    if h.inflight != 0 {
+        return false;
+    }
+    if h.trait_probes != 0 {
+        return false;
+    }
+    h.successes == 0
+}
+
+pub(crate) fn items_of(c: Config) -> Items
+    ensures { λ r. ⌜ r ≡ itemsOf c ⌝ }
+{
+    if c.kind == 1 {
+        return Items::Nothing;
+    }
+    if c.kind == 2 {
+        return Items::Outcomes(c.limit);
+    }
+    Items::Times
+}
