@@ -1,0 +1,105 @@
+-- The types of the breaker's calls, as `thin` takes them. Assumes nothing.
+use mathlib.Core.Path.{refl}
+use mathlib.Core.List.{[], _∷_}
+use Rattle.thin.proofs.Types.{One, ofStruct, ofEnum, Fields, ofFields}
+use Rattle.circuit.proofs.Breaker as Breaker
+use Rattle.circuit.proofs.Breaker.Laws as Breaker·laws
+use Rattle.circuit.proofs.Ticket as Ticket
+use Rattle.circuit.proofs.Ticket.Laws as Ticket·laws
+use Rattle.trip.proofs.CircuitBreakerBuilder as CircuitBreakerBuilder
+use Rattle.trip.proofs.CircuitBreakerBuilder.Laws as CircuitBreakerBuilder·laws
+use Rattle.circuit.proofs.Decision as Decision
+use Rattle.circuit.proofs.Decision.Laws as Decision·laws
+use Rattle.circuit.proofs.Reservation as Reservation
+use Rattle.circuit.proofs.Reservation.Laws as Reservation·laws
+use Rattle.circuit.proofs.Finished as Finished
+use Rattle.circuit.proofs.Finished.Laws as Finished·laws
+use Rattle.circuit.proofs.Admission as Admission
+use Rattle.circuit.proofs.Admission.Laws as Admission·laws
+use Rattle.circuit.proofs.Tried as Tried
+use Rattle.circuit.proofs.Tried.Laws as Tried·laws
+use Rattle.circuit.proofs.Standing as Standing
+use Rattle.circuit.proofs.Standing.Laws as Standing·laws
+use Rattle.circuit.proofs.Notice as Notice
+use Rattle.circuit.proofs.Notice.Laws as Notice·laws
+use Rattle.circuit.proofs.Decided as Decided
+use Rattle.circuit.proofs.Decided.Laws as Decided·laws
+use Rattle.circuit.proofs.Reserved as Reserved
+use Rattle.circuit.proofs.Reserved.Laws as Reserved·laws
+use Rattle.circuit.proofs.Counted as Counted
+use Rattle.circuit.proofs.Counted.Laws as Counted·laws
+use Rattle.circuit.proofs.Settled as Settled
+use Rattle.circuit.proofs.Settled.Laws as Settled·laws
+use Rattle.circuit.proofs.Admitted as Admitted
+use Rattle.circuit.proofs.Admitted.Laws as Admitted·laws
+use Rattle.circuit.proofs.TriedAdmission as TriedAdmission
+use Rattle.circuit.proofs.TriedAdmission.Laws as TriedAdmission·laws
+use Rattle.circuit.proofs.Noticed as Noticed
+use Rattle.circuit.proofs.Noticed.Laws as Noticed·laws
+use Rattle.circuit.proofs.Acquisition as Acquisition
+use Rattle.circuit.proofs.Acquisition.Laws as Acquisition·laws
+use Rattle.circuit.proofs.Reserving as Reserving
+use Rattle.circuit.proofs.Reserving.Laws as Reserving·laws
+
+-- ---- records and settings
+
+abbrev pub breaker : One
+breaker = ofStruct Breaker.the-type Breaker·laws.the-laws Breaker·laws.the-plain
+
+abbrev pub ticket : One
+ticket = ofStruct Ticket.the-type Ticket·laws.the-laws Ticket·laws.the-plain
+
+abbrev pub builder : One
+builder = ofStruct CircuitBreakerBuilder.the-type CircuitBreakerBuilder·laws.the-laws CircuitBreakerBuilder·laws.the-plain
+
+-- ---- inner replies, and answers
+
+abbrev pub decision : One
+decision = ofEnum Decision.the-type Decision·laws.the-laws tt Decision·laws.the-plain
+
+abbrev pub reservation : One
+reservation = ofEnum Reservation.the-type Reservation·laws.the-laws tt Reservation·laws.the-plain
+
+abbrev pub finished : One
+finished = ofEnum Finished.the-type Finished·laws.the-laws tt Finished·laws.the-plain
+
+abbrev pub admission : One
+admission = ofEnum Admission.the-type Admission·laws.the-laws tt Admission·laws.the-plain
+
+abbrev pub triedAnswer : One
+triedAnswer = ofEnum Tried.the-type Tried·laws.the-laws tt Tried·laws.the-plain
+
+abbrev pub standing : One
+standing = ofEnum Standing.the-type Standing·laws.the-laws tt Standing·laws.the-plain
+
+abbrev pub notice : One
+notice = ofEnum Notice.the-type Notice·laws.the-laws tt Notice·laws.the-plain
+
+abbrev pub decided : One
+decided = ofEnum Decided.the-type Decided·laws.the-laws tt Decided·laws.the-plain
+
+abbrev pub reserved : One
+reserved = ofEnum Reserved.the-type Reserved·laws.the-laws tt Reserved·laws.the-plain
+
+abbrev pub counted : One
+counted = ofEnum Counted.the-type Counted·laws.the-laws tt Counted·laws.the-plain
+
+-- ---- what a step returns
+
+abbrev pub settled : Fields (finished ∷ breaker ∷ [])
+settled = ofFields Settled.the-type Settled·laws.the-laws (λ z. (z .answer, (z .breaker, tt))) refl (λ z. refl) (λ z are. are)
+
+abbrev pub admitted : Fields (admission ∷ breaker ∷ [])
+admitted = ofFields Admitted.the-type Admitted·laws.the-laws (λ z. (z .answer, (z .breaker, tt))) refl (λ z. refl) (λ z are. are)
+
+abbrev pub tried : Fields (triedAnswer ∷ breaker ∷ [])
+tried = ofFields TriedAdmission.the-type TriedAdmission·laws.the-laws (λ z. (z .answer, (z .breaker, tt))) refl (λ z. refl) (λ z are. are)
+
+abbrev pub noticed : Fields (notice ∷ breaker ∷ [])
+noticed = ofFields Noticed.the-type Noticed·laws.the-laws (λ z. (z .answer, (z .breaker, tt))) refl (λ z. refl) (λ z are. are)
+
+abbrev pub acquisition : Fields (decided ∷ breaker ∷ [])
+acquisition = ofFields Acquisition.the-type Acquisition·laws.the-laws (λ z. (z .answer, (z .breaker, tt))) refl (λ z. refl) (λ z are. are)
+
+abbrev pub reserving : Fields (reserved ∷ breaker ∷ [])
+reserving = ofFields Reserving.the-type Reserving·laws.the-laws (λ z. (z .answer, (z .breaker, tt))) refl (λ z. refl) (λ z are. are)
