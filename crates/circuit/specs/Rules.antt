@@ -88,6 +88,7 @@ halfOpening st = moved HalfOpen (st .openUntil) (withCounts 1 0 0 st)
 
 -- ---- "Admission."
 
+-- what it comes to: a ticket with the state after it, or a delay in milliseconds
 pub data Admitted : Type 0 where
   granted : Ticket → State → Admitted
   shed : ℕ → Admitted
@@ -95,6 +96,8 @@ pub data Admitted : Type 0 where
 abbrev pub ticketOf : State → Bool → Ticket
 ticketOf st probe = record { generation = st .generation; probe = probe }
 
+-- "Closed: current generation, no probe. Open, reading ≥ open-until: go HalfOpen …, probe ticket of the new generation. Open earlier:
+-- delay = open-until − reading. HalfOpen with inflight < trials: inflight +1, probe ticket. Otherwise delay 0."
 unfoldable pub admit : Settings → ℕ → State → Admitted
 admit s reading st =
     if eqb (st .state) Closed then granted (ticketOf st false) st
@@ -130,6 +133,7 @@ ticket (traitAbort t) = t
 abbrev pub probes : Ticket → ℕ
 probes t = bit (t .probe)
 
+-- places and trait probes less by so many, successes more
 abbrev pub counting : ℕ → ℕ → ℕ → State → State
 counting places traits good st = withCounts (st .inflight - places) (st .traitProbes - traits) (st .successes + good) st
 
@@ -177,6 +181,7 @@ act s reading c st =
 unfoldable pub finish : Settings → ℕ → Call → State → Outcome
 finish s reading c st = if eqb (ticket c .generation) (st .generation) then act s reading c st else done st
 
+-- a settle with success or failure, and an abort through the trait side or not
 abbrev pub settling : Ticket → Bool → Call
 settling t true = success t
 settling t false = failure t

@@ -1,0 +1,56 @@
+-- What a step leaves, from what circuit's step left and what was told of it. Assumes nothing.
+use Prim.Native.Nat.{ℕ}
+use mathlib.Core.Path.{_≡_, ap, _∙_}
+use mathlib.Core.Bool.{Bool, true, false}
+use mathlib.Core.List.{List, []}
+use lib.ListN.{length}
+use borrow.Author.Tests.{eq-eqb, ne-eqb}
+use Rattle.error.specs.Told.{Told as Answer, tell, refused}
+use Rattle.error.specs.declared.Refusal.the-variants.{Storage, Unsound}
+use Rattle.circuit.specs.declared.Breaker.{Breaker}
+use Rattle.circuit.specs.Record.{Settings, State}
+use Rattle.circuit.specs.Rules.{Outcome}
+use Rattle.circuit.specs.Calls.{After, after, guarded, onSound, asked, built}
+use Rattle.circuit.specs.Batch.{Batch, batch}
+use Rattle.capi.specs.declared.Told.{Told}
+use Rattle.capi.specs.declared.Setting.{Setting}
+use Rattle.capi.specs.Crossing.{packed, Crossing, crossing, crossed, crossings, crossedAll, known, onReply, askedReply, builderBy, builtBy}
+
+module _ (r : Told) (t : Answer) (b : Breaker) (s : List ℕ) (told : r ≡ packed t) where
+  pub cross : (a : After) → after t b s ≡ a → crossing r b s ≡ crossed a
+  unfolding crossed
+  cross a q = ap (λ (x : Told). crossing x b s) told ∙ ap crossed q
+
+  pub cross-all : (answers : List ℕ) (a : Batch) → batch (after t b s) answers ≡ a → crossings (crossing r b s) answers ≡ crossedAll a
+  unfolding crossed crossedAll
+  cross-all answers a q = ap (λ (x : Told). crossings (crossing x b s) answers) told ∙ ap crossedAll q
+
+module _ (ok : Bool) (b : Breaker) (s : List ℕ) where
+  pub known-reply : (rule : Settings → State → Outcome) → ok ≡ true → onSound rule b s ≡ onReply ok rule b s
+  unfolding onReply
+  known-reply rule e = simp e
+
+  pub unknown-reply : (rule : Settings → State → Outcome) → ok ≡ false → after (guarded refused (tell 11 []) b s) b s ≡ onReply ok rule b s
+  unfolding onReply
+  unknown-reply rule e = simp e
+
+  pub known-asked : (rule : Settings → State → Answer) → ok ≡ true → asked rule b s ≡ askedReply ok rule b s
+  unfolding askedReply
+  known-asked rule e = simp e
+
+  pub unknown-asked : (rule : Settings → State → Answer) → ok ≡ false → guarded refused (tell 11 []) b s ≡ askedReply ok rule b s
+  unfolding askedReply
+  unknown-asked rule e = simp e
+
+module _ (x : Setting) (b : Breaker) (s : List ℕ) where
+  pub known-built : known (x .kind) ≡ true → built (builderBy x) b s ≡ builtBy x b s
+  unfolding builtBy
+  known-built e = simp e
+
+  pub storage-built : known (x .kind) ≡ false → (length s ≡ 4096 → ⊥) → after (refused Storage) b s ≡ builtBy x b s
+  unfolding builtBy
+  storage-built e n = simp (e, ne-eqb (length s) 4096 n)
+
+  pub unknown-built : known (x .kind) ≡ false → length s ≡ 4096 → after (refused Unsound) b s ≡ builtBy x b s
+  unfolding builtBy
+  unknown-built e p = simp (e, eq-eqb (length s) 4096 p)

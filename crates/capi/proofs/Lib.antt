@@ -1,0 +1,3 @@
+-- The types that cross, and what a step leaves.
+pub mod Types
+pub mod Cross

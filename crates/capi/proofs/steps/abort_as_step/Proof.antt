@@ -1,0 +1,21 @@
+-- `capi::steps::abort_as_step` meets its contract: circuit's step, and its answer packed. Assumes nothing.
+use Rattle.capi.proofs.Cross.{cross}
+use borrow.Author.Needs.{needs}
+use Rattle.capi.proofs.steps.abort_as_step.Statement.{statement}
+use Rattle.capi.proofs.steps.abort_as_step.Tie as tie
+
+abort-as-requires : tie.Need-abort-as-requires
+abort-as-requires c κs = search needs
+
+tell-finished-requires : tie.Need-tell-finished-requires
+tell-finished-requires c κs = search needs
+
+same-length : tie.Need-same-length
+same-length c = search needs
+
+returns : tie.Need-returns
+returns c = cross _ _ _ _ (c .tell-finished .ensures) _ (c .before .before .before .before .abort-as .ensures)
+
+pub abort-as-step-spec : {M : Type 1} → statement M
+abort-as-step-spec =
+    tie.close (tie.spec abort-as-requires tell-finished-requires same-length returns)

@@ -1,0 +1,21 @@
+-- `capi::steps::permit_cancel_step` meets its contract: circuit's step, and its answer packed. Assumes nothing.
+use Rattle.capi.proofs.Cross.{cross}
+use borrow.Author.Needs.{needs}
+use Rattle.capi.proofs.steps.permit_cancel_step.Statement.{statement}
+use Rattle.capi.proofs.steps.permit_cancel_step.Tie as tie
+
+permit-cancel-requires : tie.Need-permit-cancel-requires
+permit-cancel-requires c κs = search needs
+
+tell-notice-requires : tie.Need-tell-notice-requires
+tell-notice-requires c κs = search needs
+
+same-length : tie.Need-same-length
+same-length c = search needs
+
+returns : tie.Need-returns
+returns c = cross _ _ _ _ (c .tell-notice .ensures) _ (c .before .before .before .before .permit-cancel .ensures)
+
+pub permit-cancel-step-spec : {M : Type 1} → statement M
+permit-cancel-step-spec =
+    tie.close (tie.spec permit-cancel-requires tell-notice-requires same-length returns)

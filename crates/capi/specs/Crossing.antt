@@ -1,0 +1,113 @@
+-- What crosses to C: an answer as plain numbers, and what the plain numbers that come in mean. Definitions only.
+use Prim.Native.Nat.{ℕ}
+use mathlib.Core.Bool.{Bool, not, _&&_}
+use mathlib.Core.List.{List, [], _∷_}
+use lib.Dec.{leb, eqb}
+use lib.ListN.{length}
+use Rattle.error.specs.Choice.{if_then_else_}
+use Rattle.error.specs.Told.{Told as Answer, tell, refused}
+use Rattle.error.specs.declared.Refusal.the-variants.{Storage, Unsound}
+use Rattle.trip.specs.declared.Trip.{Trip}
+use Rattle.trip.specs.declared.Trip.the-variants.{Consecutive, Ratio, Windowed}
+use Rattle.trip.specs.declared.CircuitBreakerBuilder.{CircuitBreakerBuilder}
+use Rattle.circuit.specs.declared.Breaker.{Breaker}
+use Rattle.circuit.specs.declared.Decision.{Decision}
+use Rattle.circuit.specs.declared.Decision.the-variants.{Acquired, Retry, Impossible}
+use Rattle.circuit.specs.declared.Reservation.{Reservation}
+use Rattle.circuit.specs.declared.Reservation.the-variants.{Wait, Nothing}
+use Rattle.circuit.specs.Record.{Settings, State}
+use Rattle.circuit.specs.Answers.{delayOf}
+use Rattle.circuit.specs.Rules.{Outcome}
+use Rattle.circuit.specs.Calls.{After, after, guarded, onSound, asked, built}
+use Rattle.circuit.specs.Batch.{Batch}
+use Rattle.capi.specs.declared.Told.{Told}
+use Rattle.capi.specs.declared.Setting.{Setting}
+
+-- ---- what goes out
+
+-- a value, or 0 where there is none
+abbrev pub first : List ℕ → ℕ
+first [] = 0
+first (v ∷ vs) = v
+
+abbrev pub second : List ℕ → ℕ
+second [] = 0
+second (v ∷ vs) = first vs
+
+-- the number, and the values in their order; a probe flag is a value of 0 or 1
+abbrev pub packed : Answer → Told
+packed t = record { number = t .number; v1 = first (t .values); v2 = second (t .values) }
+
+-- what a call leaves: what it told, the record, and every place
+pub record Crossing : Type 0 where
+  pub told : Told
+  pub breaker : Breaker
+  pub places : List ℕ
+
+abbrev pub crossing : Told → Breaker → List ℕ → Crossing
+crossing t b s = record { told = t; breaker = b; places = s }
+
+unfoldable pub crossed : After → Crossing
+crossed a = crossing (packed (a .told)) (a .breaker) (a .places)
+
+-- what a batch leaves: as any call, and the number told to each call of the sequence
+pub record Crossings : Type 0 where
+  pub left : Crossing
+  pub answers : List ℕ
+
+abbrev pub crossings : Crossing → List ℕ → Crossings
+crossings l a = record { left = l; answers = a }
+
+unfoldable pub crossedAll : Batch → Crossings
+crossedAll x = crossings (crossed (x .left)) (x .answers)
+
+-- ---- replies of the inner limiter that come in
+
+-- "reply kind not 1 to 3" is unknown
+abbrev pub known : ℕ → Bool
+known kind = leb 1 kind && leb kind 3
+
+-- 1 acquired, 2 retry after so many milliseconds, 3 impossible
+abbrev pub decisionBy : ℕ → ℕ → Decision
+decisionBy kind ms =
+    if eqb kind 1 then Acquired
+    else if eqb kind 2 then Retry (delayOf ms)
+    else Impossible
+
+-- a reservation's kinds are those of its answer: 1 a wait of so many milliseconds, 0 none
+abbrev pub reservable : ℕ → Bool
+reservable kind = leb kind 1
+
+abbrev pub reservationBy : ℕ → ℕ → Reservation
+reservationBy kind ms = if eqb kind 1 then Wait (delayOf ms) else Nothing
+
+-- a call by a reply: "Tested in the order 3, 4, 11"; refused it leaves all as it was
+unfoldable pub onReply : Bool → (Settings → State → Outcome) → Breaker → List ℕ → After
+onReply ok rule b s = if ok then onSound rule b s else after (guarded refused (tell 11 []) b s) b s
+
+unfoldable pub askedReply : Bool → (Settings → State → Answer) → Breaker → List ℕ → Answer
+askedReply ok rule b s = if ok then asked rule b s else guarded refused (tell 11 []) b s
+
+-- ---- a setting that comes in
+
+-- the policy of a kind: 1 Consecutive, 2 Ratio, 3 Windowed; the numbers of another policy are not read
+abbrev pub tripBy : Setting → Trip
+tripBy x =
+    if eqb (x .kind) 1 then Consecutive (x .limit)
+    else if eqb (x .kind) 2 then Ratio (x .limit) (x .ratio) (x .«min_calls»)
+    else Windowed (x .limit) (record { secs = x .«period_secs»; nanos = x .«period_nanos» })
+
+abbrev pub builderBy : Setting → CircuitBreakerBuilder
+builderBy x =
+    record {
+      trip = tripBy x;
+      cooldown = record { secs = x .«cooldown_secs»; nanos = x .«cooldown_nanos» };
+      «half_open_trials» = x .trials;
+      «half_open_required» = x .required;
+    }
+
+-- making a breaker: 3, then 4 for an unknown kind, then what the builder refuses; refused it leaves all as it was
+unfoldable pub builtBy : Setting → Breaker → List ℕ → After
+builtBy x b s =
+    if known (x .kind) then built (builderBy x) b s
+    else after (if not (eqb (length s) 4096) then refused Storage else refused Unsound) b s

@@ -1,0 +1,108 @@
+// Plain numbers that come in, as the enums they stand for.
+ghost use mathlib.Core.Path.{_≡_};
+ghost use mathlib.Core.List.{[]};
+ghost use Rattle.error.specs.Told.{tell, refused};
+ghost use Rattle.circuit.specs.Calls.{guarded};
+ghost use Rattle.capi.specs.Crossing.{packed, known, decisionBy, reservable, reservationBy, tripBy, builderBy};
+use crate::Setting;
+use crate::Told;
+use crate::tell::tell_refusal;
+use circuit::Breaker;
+use circuit::Decision;
+use circuit::Delay;
+use circuit::Reservation;
+use error::Refusal;
+use trip::CircuitBreakerBuilder;
+use trip::Duration;
+use trip::Trip;
+
+// Whether a reply or a policy has this kind.
+pub fn is_known(kind: u8) -> bool
+    ensures { λ r. ⌜ r ≡ known kind ⌝ }
+{
+    if kind < 1 {
+        return false;
+    }
+    kind <= 3
+}
+
+pub fn decision_by(kind: u8, ms: u64) -> Decision
+    ensures { λ r. ⌜ r ≡ decisionBy kind ms ⌝ }
+{
+    if kind == 1 {
+        return Decision::Acquired;
+    }
+    if kind == 2 {
+        return Decision::Retry(Delay { ms });
+    }
+    Decision::Impossible
+}
+
+// Whether a reservation has this kind.
+pub fn is_reservable(kind: u8) -> bool
+    ensures { λ r. ⌜ r ≡ reservable kind ⌝ }
+{
+    kind <= 1
+}
+
+pub fn reservation_by(kind: u8, ms: u64) -> Reservation
+    ensures { λ r. ⌜ r ≡ reservationBy kind ms ⌝ }
+{
+    if kind == 1 {
+        return Reservation::Wait(Delay { ms });
+    }
+    Reservation::Nothing
+}
+
+// What a call with an unknown reply is told: 3, 4, then 11.
+pub fn tell_unknown(breaker: Breaker, list: &[u64]) -> Told
+    ensures { λ r. ⌜ r ≡ packed (guarded refused (tell 11 []) breaker (now (list .entry))) ⌝ }
+{
+    if list.len() != 4096 {
+        return tell_refusal(Refusal::Storage);
+    }
+    if !circuit::is_sound(breaker, list) {
+        return tell_refusal(Refusal::Unsound);
+    }
+    Told {
+        number: 11,
+        v1: 0,
+        v2: 0,
+    }
+}
+
+fn trip_by(setting: Setting) -> Trip
+    ensures { λ r. ⌜ r ≡ tripBy setting ⌝ }
+{
+    if setting.kind == 1 {
+        return Trip::Consecutive(setting.limit);
+    }
+    if setting.kind == 2 {
+        return Trip::Ratio {
+            window: setting.limit,
+            ratio: setting.ratio,
+            min_calls: setting.min_calls,
+        };
+    }
+    Trip::Windowed {
+        failures: setting.limit,
+        period: Duration {
+            secs: setting.period_secs,
+            nanos: setting.period_nanos,
+        },
+    }
+}
+
+pub fn builder_by(setting: Setting) -> CircuitBreakerBuilder
+    ensures { λ r. ⌜ r ≡ builderBy setting ⌝ }
+{
+    CircuitBreakerBuilder {
+        trip: trip_by(setting),
+        cooldown: Duration {
+            secs: setting.cooldown_secs,
+            nanos: setting.cooldown_nanos,
+        },
+        half_open_trials: setting.trials,
+        half_open_required: setting.required,
+    }
+}

@@ -1,0 +1,340 @@
+// The steps by value under the exported functions: numbers in, circuit's step, numbers out.
+ghost use mathlib.Core.Path.{_≡_};
+ghost use mathlib.Core.Bool.{true, false};
+ghost use Rattle.circuit.specs.Record.{HalfOpen, sound};
+ghost use Rattle.circuit.specs.Calls as Calls;
+ghost use Rattle.circuit.specs.Calls.{onSound, asked};
+ghost use Rattle.circuit.specs.Rules as Rules;
+ghost use Rattle.circuit.specs.Orders.{FinishingOrders};
+ghost use Rattle.circuit.specs.Batch.{slices, finishedAll};
+ghost use Rattle.capi.specs.Crossing.{packed, crossing, crossed, crossings, crossedAll, known, decisionBy, reservable, reservationBy, onReply, askedReply, builtBy};
+use crate::Setting;
+use crate::Step;
+use crate::Told;
+use crate::reply::builder_by;
+use crate::reply::decision_by;
+use crate::reply::is_known;
+use crate::reply::is_reservable;
+use crate::reply::reservation_by;
+use crate::reply::tell_unknown;
+use crate::tell::tell_admission;
+use crate::tell::tell_counted;
+use crate::tell::tell_decided;
+use crate::tell::tell_finished;
+use crate::tell::tell_notice;
+use crate::tell::tell_refusal;
+use crate::tell::tell_reserved;
+use crate::tell::tell_standing;
+use crate::tell::tell_tried;
+use circuit::Breaker;
+use circuit::Ticket;
+use error::Refusal;
+
+pub fn build_step(breaker: Breaker, list: &mut [u64], setting: Setting) -> Step
+    ensures { λ r. ⌜ crossing (r .answer) (r .breaker) (now (list .exit)) ≡ crossed (builtBy setting breaker (now (list .entry))) ⌝ }
+{
+    if !is_known(setting.kind) {
+        if list.len() != 4096 {
+            return Step {
+                answer: tell_refusal(Refusal::Storage),
+                breaker,
+            };
+        }
+        return Step {
+            answer: tell_refusal(Refusal::Unsound),
+            breaker,
+        };
+    }
+    let builder = builder_by(setting);
+    let s = circuit::build(breaker, list, builder);
+    let answer = s.answer;
+    let next = s.breaker;
+    Step {
+        answer: tell_finished(answer),
+        breaker: next,
+    }
+}
+
+pub fn admit_as_step(breaker: Breaker, list: &mut [u64], now_ms: u64, via_trait: bool) -> Step
+    ensures { λ r. ⌜ crossing (r .answer) (r .breaker) (now (list .exit)) ≡ crossed (onSound (Calls.admission «via_trait» «now_ms») breaker (now (list .entry))) ⌝ }
+{
+    let s = circuit::admit_as(breaker, list, now_ms, via_trait);
+    let answer = s.answer;
+    let next = s.breaker;
+    Step {
+        answer: tell_admission(answer),
+        breaker: next,
+    }
+}
+
+pub fn settle_step(
+    breaker: Breaker,
+    list: &mut [u64],
+    now_ms: u64,
+    ticket: Ticket,
+    success: bool,
+) -> Step
+    ensures { λ r. ⌜ crossing (r .answer) (r .breaker) (now (list .exit)) ≡ crossed (onSound (Calls.settle «now_ms» ticket success) breaker (now (list .entry))) ⌝ }
+{
+    let s = circuit::settle(breaker, list, now_ms, ticket, success);
+    let answer = s.answer;
+    let next = s.breaker;
+    Step {
+        answer: tell_finished(answer),
+        breaker: next,
+    }
+}
+
+pub fn abort_as_step(breaker: Breaker, list: &mut [u64], ticket: Ticket, via_trait: bool) -> Step
+    ensures { λ r. ⌜ crossing (r .answer) (r .breaker) (now (list .exit)) ≡ crossed (onSound (Calls.abortAs ticket «via_trait») breaker (now (list .entry))) ⌝ }
+{
+    let s = circuit::abort_as(breaker, list, ticket, via_trait);
+    let answer = s.answer;
+    let next = s.breaker;
+    Step {
+        answer: tell_finished(answer),
+        breaker: next,
+    }
+}
+
+pub fn permit_success_step(breaker: Breaker, list: &mut [u64], now_ms: u64, ticket: Ticket) -> Step
+    ensures { λ r. ⌜ crossing (r .answer) (r .breaker) (now (list .exit)) ≡ crossed (onSound (Calls.settle «now_ms» ticket true) breaker (now (list .entry))) ⌝ }
+{
+    let s = circuit::permit_success(breaker, list, now_ms, ticket);
+    let answer = s.answer;
+    let next = s.breaker;
+    Step {
+        answer: tell_finished(answer),
+        breaker: next,
+    }
+}
+
+pub fn permit_failure_step(breaker: Breaker, list: &mut [u64], now_ms: u64, ticket: Ticket) -> Step
+    ensures { λ r. ⌜ crossing (r .answer) (r .breaker) (now (list .exit)) ≡ crossed (onSound (Calls.settle «now_ms» ticket false) breaker (now (list .entry))) ⌝ }
+{
+    let s = circuit::permit_failure(breaker, list, now_ms, ticket);
+    let answer = s.answer;
+    let next = s.breaker;
+    Step {
+        answer: tell_finished(answer),
+        breaker: next,
+    }
+}
+
+pub fn permit_dropped_step(breaker: Breaker, list: &mut [u64], now_ms: u64, ticket: Ticket) -> Step
+    ensures { λ r. ⌜ crossing (r .answer) (r .breaker) (now (list .exit)) ≡ crossed (onSound (Calls.settle «now_ms» ticket false) breaker (now (list .entry))) ⌝ }
+{
+    let s = circuit::permit_dropped(breaker, list, now_ms, ticket);
+    let answer = s.answer;
+    let next = s.breaker;
+    Step {
+        answer: tell_finished(answer),
+        breaker: next,
+    }
+}
+
+pub fn permit_cancel_step(breaker: Breaker, list: &mut [u64], ticket: Ticket) -> Step
+    ensures { λ r. ⌜ crossing (r .answer) (r .breaker) (now (list .exit)) ≡ crossed (onSound (Calls.cancel ticket) breaker (now (list .entry))) ⌝ }
+{
+    let s = circuit::permit_cancel(breaker, list, ticket);
+    let answer = s.answer;
+    let next = s.breaker;
+    Step {
+        answer: tell_notice(answer),
+        breaker: next,
+    }
+}
+
+pub fn reset_step(breaker: Breaker, list: &mut [u64]) -> Step
+    ensures { λ r. ⌜ crossing (r .answer) (r .breaker) (now (list .exit)) ≡ crossed (onSound (λ s st. Rules.reset st) breaker (now (list .entry))) ⌝ }
+{
+    let s = circuit::reset(breaker, list);
+    let answer = s.answer;
+    let next = s.breaker;
+    Step {
+        answer: tell_finished(answer),
+        breaker: next,
+    }
+}
+
+pub fn record_manual_step(breaker: Breaker, list: &mut [u64], now_ms: u64, success: bool) -> Step
+    ensures { λ r. ⌜ crossing (r .answer) (r .breaker) (now (list .exit)) ≡ crossed (onSound (λ s st. Rules.manual s «now_ms» success st) breaker (now (list .entry))) ⌝ }
+{
+    let s = circuit::record_manual(breaker, list, now_ms, success);
+    let answer = s.answer;
+    let next = s.breaker;
+    Step {
+        answer: tell_finished(answer),
+        breaker: next,
+    }
+}
+
+pub fn release_trait_probe_step(breaker: Breaker, list: &mut [u64]) -> Step
+    ensures { λ r. ⌜ crossing (r .answer) (r .breaker) (now (list .exit)) ≡ crossed (onSound (λ s st. Rules.done (Rules.released st)) breaker (now (list .entry))) ⌝ }
+{
+    let s = circuit::release_trait_probe(breaker, list);
+    let answer = s.answer;
+    let next = s.breaker;
+    Step {
+        answer: tell_finished(answer),
+        breaker: next,
+    }
+}
+
+pub fn try_admit_step(
+    breaker: Breaker,
+    list: &mut [u64],
+    now_ms: u64,
+    inner_kind: u8,
+    inner_ms: u64,
+    capacity: u32,
+) -> Step
+    ensures { λ r. ⌜ crossing (r .answer) (r .breaker) (now (list .exit)) ≡ crossed (onReply (known «inner_kind») (Calls.tryAdmit (decisionBy «inner_kind» «inner_ms») capacity «now_ms») breaker (now (list .entry))) ⌝ }
+{
+    if !is_known(inner_kind) {
+        return Step {
+            answer: tell_unknown(breaker, list),
+            breaker,
+        };
+    }
+    let inner = decision_by(inner_kind, inner_ms);
+    let s = circuit::try_admit(breaker, list, now_ms, inner, capacity);
+    let answer = s.answer;
+    let next = s.breaker;
+    Step {
+        answer: tell_tried(answer),
+        breaker: next,
+    }
+}
+
+pub fn acquire_cost_step(
+    breaker: Breaker,
+    list: &mut [u64],
+    now_ms: u64,
+    inner_kind: u8,
+    inner_ms: u64,
+) -> Step
+    ensures { λ r. ⌜ crossing (r .answer) (r .breaker) (now (list .exit)) ≡ crossed (onReply (known «inner_kind») (Calls.acquireCost (decisionBy «inner_kind» «inner_ms») «now_ms») breaker (now (list .entry))) ⌝ }
+{
+    if !is_known(inner_kind) {
+        return Step {
+            answer: tell_unknown(breaker, list),
+            breaker,
+        };
+    }
+    let inner = decision_by(inner_kind, inner_ms);
+    let s = circuit::acquire_cost(breaker, list, now_ms, inner);
+    let answer = s.answer;
+    let next = s.breaker;
+    Step {
+        answer: tell_decided(answer),
+        breaker: next,
+    }
+}
+
+pub fn reserve_step(
+    breaker: Breaker,
+    list: &mut [u64],
+    now_ms: u64,
+    inner_kind: u8,
+    inner_ms: u64,
+) -> Step
+    ensures { λ r. ⌜ crossing (r .answer) (r .breaker) (now (list .exit)) ≡ crossed (onReply (reservable «inner_kind») (Calls.reserve (reservationBy «inner_kind» «inner_ms») «now_ms») breaker (now (list .entry))) ⌝ }
+{
+    if !is_reservable(inner_kind) {
+        return Step {
+            answer: tell_unknown(breaker, list),
+            breaker,
+        };
+    }
+    let inner = reservation_by(inner_kind, inner_ms);
+    let s = circuit::reserve(breaker, list, now_ms, inner);
+    let answer = s.answer;
+    let next = s.breaker;
+    Step {
+        answer: tell_reserved(answer),
+        breaker: next,
+    }
+}
+
+pub fn refund_step(breaker: Breaker, list: &mut [u64], cost: u32) -> Step
+    ensures { λ r. ⌜ crossing (r .answer) (r .breaker) (now (list .exit)) ≡ crossed (onSound (Calls.refund cost) breaker (now (list .entry))) ⌝ }
+{
+    let s = circuit::refund(breaker, list, cost);
+    let answer = s.answer;
+    let next = s.breaker;
+    Step {
+        answer: tell_notice(answer),
+        breaker: next,
+    }
+}
+
+pub fn finish_all_step(
+    breaker: Breaker,
+    list: &mut [u64],
+    now_ms: u64,
+    generations: &[u64],
+    probes: &[bool],
+    settles: &[bool],
+    marks: &[bool],
+    answers: &mut [u64],
+) -> Step
+    ensures { λ r. ⌜ crossings (crossing (r .answer) (r .breaker) (now (list .exit))) (now (answers .exit)) ≡ crossedAll (finishedAll «now_ms» (slices (now (generations .entry)) (now (probes .entry)) (now (settles .entry)) (now (marks .entry))) breaker (now (list .entry)) (now (answers .entry))) ⌝ }
+    ensures orders { λ _. ⌜ (sound breaker (now (list .entry)) ≡ true → breaker .shared .state ≡ HalfOpen → FinishingOrders «now_ms» breaker (now (list .entry))) ⌝ }
+{
+    let s = circuit::finish_all(
+        breaker,
+        list,
+        now_ms,
+        generations,
+        probes,
+        settles,
+        marks,
+        answers,
+    );
+    let answer = s.answer;
+    let next = s.breaker;
+    Step {
+        answer: tell_finished(answer),
+        breaker: next,
+    }
+}
+
+pub fn still_admits_step(breaker: Breaker, list: &[u64], now_ms: u64, ticket: Ticket) -> Told
+    ensures { λ r. ⌜ r ≡ packed (asked (λ s st. Rules.stillAdmits «now_ms» ticket st) breaker (now (list .entry))) ⌝ }
+{
+    tell_standing(circuit::still_admits(breaker, list, now_ms, ticket))
+}
+
+pub fn peek_step(breaker: Breaker, list: &[u64], now_ms: u64, inner_kind: u8, inner_ms: u64) -> Told
+    ensures { λ r. ⌜ r ≡ packed (askedReply (known «inner_kind») (Calls.peek (decisionBy «inner_kind» «inner_ms») «now_ms») breaker (now (list .entry))) ⌝ }
+{
+    if !is_known(inner_kind) {
+        return tell_unknown(breaker, list);
+    }
+    let inner = decision_by(inner_kind, inner_ms);
+    tell_decided(circuit::peek(breaker, list, now_ms, inner))
+}
+
+pub fn available_step(
+    breaker: Breaker,
+    list: &[u64],
+    now_ms: u64,
+    inner_kind: u8,
+    inner_ms: u64,
+    count: u32,
+) -> Told
+    ensures { λ r. ⌜ r ≡ packed (askedReply (known «inner_kind») (Calls.available (decisionBy «inner_kind» «inner_ms») count «now_ms») breaker (now (list .entry))) ⌝ }
+{
+    if !is_known(inner_kind) {
+        return tell_unknown(breaker, list);
+    }
+    let inner = decision_by(inner_kind, inner_ms);
+    tell_counted(circuit::available(breaker, list, now_ms, inner, count))
+}
+
+pub fn board_step(breaker: Breaker, list: &[u64]) -> Told
+    ensures { λ r. ⌜ r ≡ packed (asked Calls.board breaker (now (list .entry))) ⌝ }
+{
+    tell_counted(circuit::board(breaker, list))
+}

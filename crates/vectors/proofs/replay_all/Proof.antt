@@ -1,0 +1,91 @@
+-- `vectors::replay_all` is safe and ends. The loop's invariant: no more lines than bytes are behind it. Assumes nothing.
+use Prim.Native.Nat.{_≤_, _-_}
+use borrow.Author.Needs.{needs}
+use lib.ListN.{length}
+use Rattle.vectors.proofs.replay_all.Statement.{statement}
+use Rattle.vectors.proofs.replay_all.Tie as tie
+
+abbrev Inv-loop : tie.InvT-loop
+Inv-loop s t₀ list₀ want₀ run₀ at₀ line₀ t list want run at line = (line ≤ at) × (at ≤ length s)
+
+abbrev μ-loop : tie.MeasureT-loop
+μ-loop s t₀ list₀ want₀ run₀ at₀ line₀ t list want run at line = length s - at
+
+places-requires : tie.Need-places-requires Inv-loop μ-loop
+places-requires c κs = search needs
+
+places-requires-2 : tie.Need-places-requires-2 Inv-loop μ-loop
+places-requires-2 c κs = search needs
+
+slice-aggregate-list : tie.Need-slice-aggregate-list Inv-loop μ-loop
+slice-aggregate-list c = search needs
+
+slice-aggregate-want : tie.Need-slice-aggregate-want Inv-loop μ-loop
+slice-aggregate-want c = search needs
+
+start-requires : tie.Need-start-requires Inv-loop μ-loop
+start-requires c κs = search needs
+
+loop-holds : tie.Need-loop-holds Inv-loop μ-loop
+loop-holds c = search needs
+
+line-end-requires : tie.Need-line-end-requires Inv-loop μ-loop
+line-end-requires c κs = search needs
+
+sub-turn : tie.Need-sub-turn Inv-loop μ-loop
+sub-turn c = search needs
+
+part-turn-start : tie.Need-part-turn-start Inv-loop μ-loop
+part-turn-start c = search needs
+
+part-turn-end : tie.Need-part-turn-end Inv-loop μ-loop
+part-turn-end c = search needs
+
+turn-requires : tie.Need-turn-requires Inv-loop μ-loop
+turn-requires c κs = search needs
+
+add-line : tie.Need-add-line Inv-loop μ-loop
+add-line c = search needs
+
+differs-requires : tie.Need-differs-requires Inv-loop μ-loop
+differs-requires c κs = search needs
+
+loop-less : tie.Need-loop-less Inv-loop μ-loop
+loop-less c = search needs
+
+loop-again : tie.Need-loop-again Inv-loop μ-loop
+loop-again c = search needs
+
+loop-less-2 : tie.Need-loop-less-2 Inv-loop μ-loop
+loop-less-2 c = search needs
+
+loop-again-2 : tie.Need-loop-again-2 Inv-loop μ-loop
+loop-again-2 c = search needs
+
+returns : tie.Need-returns Inv-loop μ-loop
+returns c = search needs
+
+pub replay-all-spec : {M : Type 1} → statement M
+replay-all-spec =
+    tie.close
+    (tie.spec
+    Inv-loop
+    μ-loop
+    places-requires
+    places-requires-2
+    slice-aggregate-list
+    slice-aggregate-want
+    start-requires
+    loop-holds
+    line-end-requires
+    sub-turn
+    part-turn-start
+    part-turn-end
+    turn-requires
+    add-line
+    differs-requires
+    loop-less
+    loop-again
+    loop-less-2
+    loop-again-2
+    returns)

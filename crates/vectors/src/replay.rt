@@ -1,0 +1,319 @@
+// The three kinds of line: a build, a state and a call. Each is compared with what the sample expects.
+use crate::calls;
+use crate::calls::Called;
+use crate::calls::narrow;
+use crate::compare::config_numbers;
+use crate::compare::pop;
+use crate::compare::push;
+use crate::compare::shared_numbers;
+use crate::compare::stands;
+use crate::lines::Line;
+use crate::settings;
+use crate::told;
+use circuit::Breaker;
+use circuit::Shared;
+use trip::Config;
+
+// Our record, and what the sample expects beside the places.
+pub(crate) struct Run {
+    pub(crate) breaker: Breaker,
+    // the settings
+    pub(crate) config: [u64; 8],
+    // the length of the list
+    pub(crate) len: u64,
+    // whether the last line agreed
+    pub(crate) same: bool,
+}
+
+// Counts: 1 to 15 the operations, 16 calls, 17 builds, 18 states, 19 refusals, 20 differences.
+pub(crate) type Tallies = [u64; 21];
+
+pub(crate) fn tally(t: &mut Tallies, i: usize) {
+    if i < 21 {
+        t[i] = std::num::wrapping_add_u64(t[i], 1);
+    }
+}
+
+// Before the first build: a record of zeros, which is not sound.
+pub(crate) fn start() -> Run {
+    Run {
+        breaker: Breaker {
+            config: Config {
+                kind: 0,
+                limit: 0,
+                ratio_bits: 0,
+                min_calls: 0,
+                period_ms: 0,
+                cooldown_ms: 0,
+                trials: 0,
+                required: 0,
+            },
+            shared: Shared {
+                state: 0,
+                generation: 0,
+                run: 0,
+                inflight: 0,
+                trait_probes: 0,
+                successes: 0,
+                open_until: 0,
+                len: 0,
+            },
+        },
+        config: [0; 8],
+        len: 0,
+        same: true,
+    }
+}
+
+fn unlike(run: Run) -> Run {
+    let breaker = run.breaker;
+    let config = run.config;
+    Run {
+        breaker,
+        config,
+        len: run.len,
+        same: false,
+    }
+}
+
+fn index(n: u64) -> usize {
+    n as usize
+}
+
+// The eight numbers that a build or a call expects of a record.
+fn expected(n: &Line) -> [u64; 8] {
+    [n[11], n[12], n[13], n[14], n[15], n[16], n[17], n[18]]
+}
+
+// Whether the record has these numbers, and every place is as expected.
+fn agrees(b: Breaker, config: [u64; 8], shared: [u64; 8], list: &[u64], want: &[u64]) -> bool {
+    let settings = config_numbers(b.config);
+    let rest = shared_numbers(b.shared);
+    if !stands(&settings, &config, 0) {
+        return false;
+    }
+    if !stands(&rest, &shared, 0) {
+        return false;
+    }
+    if list.len() != want.len() {
+        return false;
+    }
+    stands(list, want, 0)
+}
+
+// Whether such a call was refused with this number and changed nothing.
+fn refused(b: Breaker, r: Called, number: u64, list: &[u64], want: &[u64]) -> bool {
+    let got = r.told;
+    let only = [number, 0, 0, 0];
+    if !stands(&got, &only, 0) {
+        return false;
+    }
+    agrees(
+        r.breaker,
+        config_numbers(b.config),
+        shared_numbers(b.shared),
+        list,
+        want,
+    )
+}
+
+fn with_state(b: Breaker, state: u8) -> Breaker {
+    let config = b.config;
+    let h = b.shared;
+    Breaker {
+        config,
+        shared: Shared {
+            state,
+            generation: h.generation,
+            run: h.run,
+            inflight: h.inflight,
+            trait_probes: h.trait_probes,
+            successes: h.successes,
+            open_until: h.open_until,
+            len: h.len,
+        },
+    }
+}
+
+// Whether the call is refused with 4,095 places, by 3, and with a state of 3, by 4.
+fn refuses(b: Breaker, list: &mut [u64], want: &[u64], n: &Line, t: &mut Tallies) -> bool {
+    if n[1] == 14 {
+        return true;
+    }
+    if list.len() < 4095 {
+        return false;
+    }
+    let short = calls::call(b, &mut list[0..4095], n);
+    tally(t, 19);
+    if !refused(b, short, 3, list, want) {
+        return false;
+    }
+    let unsound = with_state(b, 3);
+    let r = calls::call(unsound, list, n);
+    tally(t, 19);
+    refused(unsound, r, 4, list, want)
+}
+
+// The expected list after a call, by the line's popped and pushed alone; its length.
+fn follow(want: &mut [u64], len: u64, n: &Line) -> u64 {
+    let popped = n[19];
+    let pushed = n[20];
+    let kept = std::num::wrapping_sub_u64(len, popped);
+    pop(want, index(popped));
+    push(want, index(kept), n, 21, index(pushed));
+    std::num::wrapping_add_u64(kept, pushed)
+}
+
+// Whether a line of so many numbers is a call that the list before it allows.
+fn is_call(n: &Line, count: usize, len: u64) -> bool {
+    if count < 21 {
+        return false;
+    }
+    if index(n[20]) != count - 21 {
+        return false;
+    }
+    if len < n[19] {
+        return false;
+    }
+    calls::takes(n)
+}
+
+// Whether the answer, the record and the places are those of the line.
+fn answers(r: Called, config: [u64; 8], n: &Line, list: &[u64], want: &[u64]) -> bool {
+    let got = r.told;
+    if !stands(&got, n, 7) {
+        return false;
+    }
+    agrees(r.breaker, config, expected(n), list, want)
+}
+
+// Makes a call, after its refusals, and compares it.
+fn call(run: Run, list: &mut [u64], want: &mut [u64], n: &Line, t: &mut Tallies) -> Run {
+    tally(t, 16);
+    tally(t, index(n[1]));
+    let before = run.breaker;
+    let config = run.config;
+    let refused = refuses(before, list, want, n, t);
+    let r = calls::call(before, list, n);
+    let breaker = r.breaker;
+    let len = follow(want, run.len, n);
+    let mut same = false;
+    if refused {
+        if len == n[18] {
+            same = answers(r, config, n, list, want);
+        }
+    }
+    Run {
+        breaker,
+        config,
+        len,
+        same,
+    }
+}
+
+// Whether a line of so many numbers is a state that fits a record.
+fn is_state(n: &Line, count: usize) -> bool {
+    if count < 9 {
+        return false;
+    }
+    if index(n[8]) != count - 9 {
+        return false;
+    }
+    if 4096 < n[8] {
+        return false;
+    }
+    if 2 < n[1] {
+        return false;
+    }
+    settings::all_words(n, 3, 7)
+}
+
+fn shared_of(n: &Line) -> Shared {
+    Shared {
+        state: (n[1] % 256) as u8,
+        generation: n[2],
+        run: narrow(n[3]),
+        inflight: narrow(n[4]),
+        trait_probes: narrow(n[5]),
+        successes: narrow(n[6]),
+        open_until: n[7],
+        len: narrow(n[8]),
+    }
+}
+
+// Writes the items of a state's line, and zeros behind them.
+fn fill(list: &mut [u64], n: &Line) {
+    pop(list, 4096);
+    push(list, 0, n, 9, index(n[8]));
+}
+
+// Sets the record and the places. Every state of the sample is sound.
+fn state(run: Run, list: &mut [u64], want: &mut [u64], n: &Line) -> Run {
+    fill(list, n);
+    fill(want, n);
+    let before = run.breaker;
+    let config = run.config;
+    let settings = before.config;
+    let breaker = Breaker {
+        config: settings,
+        shared: shared_of(n),
+    };
+    Run {
+        breaker,
+        config,
+        len: n[8],
+        same: circuit::is_sound(breaker, list),
+    }
+}
+
+// Builds a breaker in the record and the storage that the last one left.
+fn build(run: Run, list: &mut [u64], want: &mut [u64], n: &Line) -> Run {
+    let before = run.breaker;
+    let r = circuit::build(before, list, settings::builder(n));
+    let breaker = r.breaker;
+    let a = r.answer;
+    pop(want, 4096);
+    let got = told::finished(a);
+    let done = [0u64; 4];
+    let config = expected(n);
+    let mut same = false;
+    if stands(&got, &done, 0) {
+        same = agrees(breaker, config, [0; 8], list, want);
+    }
+    Run {
+        breaker,
+        config,
+        len: 0,
+        same,
+    }
+}
+
+// Replays a line of so many numbers.
+pub(crate) fn replay(
+    run: Run,
+    list: &mut [u64],
+    want: &mut [u64],
+    n: &Line,
+    count: usize,
+    t: &mut Tallies,
+) -> Run {
+    let kind = n[0];
+    if kind == 0 {
+        if settings::is_build(n, count) {
+            tally(t, 17);
+            return build(run, list, want, n);
+        }
+    }
+    if kind == 1 {
+        if is_state(n, count) {
+            tally(t, 18);
+            return state(run, list, want, n);
+        }
+    }
+    if kind == 2 {
+        if is_call(n, count, run.len) {
+            return call(run, list, want, n, t);
+        }
+    }
+    unlike(run)
+}

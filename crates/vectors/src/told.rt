@@ -1,0 +1,92 @@
+// Answers as document 01 tells them: a number and its values, 0 where there is none.
+use circuit::Admission;
+use circuit::Counted;
+use circuit::Decided;
+use circuit::Decision;
+use circuit::Finished;
+use circuit::Notice;
+use circuit::Reservation;
+use circuit::Reserved;
+use circuit::Standing;
+use circuit::Ticket;
+use circuit::Tried;
+use error::Refusal;
+
+// The number and three values.
+pub(crate) type Told = [u64; 4];
+
+pub(crate) fn refused(r: Refusal) -> Told {
+    [error::number(r) as u64, 0, 0, 0]
+}
+
+fn granted(t: Ticket) -> Told {
+    [0, t.generation, t.probe as u64, 0]
+}
+
+pub(crate) fn admission(a: Admission) -> Told {
+    match a {
+        Admission::Granted(t) => granted(t),
+        Admission::Shed(d) => [6, d.ms, 0, 0],
+        Admission::Refused(r) => refused(r),
+    }
+}
+
+pub(crate) fn finished(a: Finished) -> Told {
+    match a {
+        Finished::Done => [0, 0, 0, 0],
+        Finished::Refused(r) => refused(r),
+    }
+}
+
+pub(crate) fn tried(a: Tried) -> Told {
+    match a {
+        Tried::Granted(t) => granted(t),
+        Tried::Shed(d) => [6, d.ms, 0, 0],
+        Tried::Retry => [7, 0, 0, 0],
+        Tried::Impossible { cost, capacity } => [8, cost as u64, capacity as u64, 0],
+        Tried::Refused(r) => refused(r),
+    }
+}
+
+pub(crate) fn standing(a: Standing) -> Told {
+    match a {
+        Standing::Admits => [0, 0, 0, 0],
+        Standing::Shed(d) => [6, d.ms, 0, 0],
+        Standing::Refused(r) => refused(r),
+    }
+}
+
+pub(crate) fn notice(a: Notice) -> Told {
+    match a {
+        Notice::Refund(cost) => [0, cost as u64, 0, 0],
+        Notice::Refused(r) => refused(r),
+    }
+}
+
+pub(crate) fn decided(a: Decided) -> Told {
+    match a {
+        Decided::Is(d) => match d {
+            Decision::Acquired => [0, 1, 0, 0],
+            Decision::Retry(wait) => [0, 2, wait.ms, 0],
+            Decision::Impossible => [0, 3, 0, 0],
+        },
+        Decided::Refused(r) => refused(r),
+    }
+}
+
+pub(crate) fn reserved(a: Reserved) -> Told {
+    match a {
+        Reserved::Is(w) => match w {
+            Reservation::Wait(wait) => [0, 1, wait.ms, 0],
+            Reservation::Nothing => [0, 0, 0, 0],
+        },
+        Reserved::Refused(r) => refused(r),
+    }
+}
+
+pub(crate) fn counted(a: Counted) -> Told {
+    match a {
+        Counted::Count(n) => [0, n, 0, 0],
+        Counted::Refused(r) => refused(r),
+    }
+}
