@@ -1,3 +1,4 @@
--- The types that cross, and what a step leaves.
+-- The types that cross, what a step leaves, and that packing loses nothing.
 pub mod Types
 pub mod Cross
+pub mod Packed

@@ -18,7 +18,7 @@ use circuit::Breaker;
 use circuit::Ticket;
 
 // What a caller is told: the number of document 01's table, 0 where the call was not refused,
-// and the values of specs/Answers in their order, 0 where there is none. A probe flag is a value of 0 or 1.
+// and the values of circuit's specs/Answers in their order, 0 where there is none. A probe flag is a value of 0 or 1.
 #[repr(C)]
 pub struct Told {
     pub number: u32,

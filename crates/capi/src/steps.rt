@@ -1,4 +1,4 @@
-// The steps by value under the exported functions: numbers in, circuit's step, numbers out.
+// The steps by value under the exported functions, `f_step` under `pudvirez_f`: numbers in, circuit's step, numbers out.
 ghost use mathlib.Core.Path.{_≡_};
 ghost use mathlib.Core.Bool.{true, false};
 ghost use Rattle.circuit.specs.Record.{HalfOpen, sound};
