@@ -4,6 +4,10 @@
  * count. Pointers must be valid, aligned and not null for the count that they come with, what is not const may overlap nothing else,
  * and nobody else writes there during a call. A `bool` must hold 0 or 1. Nothing is kept after a call: no memory, no clock, no global state.
  * Readings (`now_ms`) are milliseconds of a clock of the caller's, and may go back.
+ * Compare and store fields, not bytes: what lies between the fields of a struct is not defined.
+ *
+ * An inner limiter's reply is handed in, so it was asked first: where the breaker sheds, the caller gives the unit or reservation back.
+ * To ask it only when the breaker admits, call pudvirez_admit_as, then the limiter, and pudvirez_abort_as if it refused.
  *
  * Every function answers a PudvirezTold (pudvirez_is_sound a bool): `number` is 0 where the call was not refused, else
  *

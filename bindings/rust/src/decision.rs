@@ -1,0 +1,30 @@
+//! The reply of an inner limiter.
+use core::time::Duration;
+
+/// What the inner limiter, which stands behind the breaker, replied to a request of 1 unit.
+#[derive(Debug, Clone, Copy, PartialEq, Eq, Hash)]
+pub enum Decision {
+    /// The unit was granted and has been deducted. Also for a breaker without an inner limiter.
+    Acquired,
+    /// Refused for now.
+    Retry {
+        /// The wait until the same request can be granted.
+        after: Duration,
+    },
+    /// The request can never be granted.
+    Impossible {
+        /// The inner limiter's capacity, handed back in the refusal.
+        capacity: u32,
+    },
+}
+
+impl Decision {
+    /// Kind, milliseconds and capacity, as the C interface takes them.
+    pub(crate) fn numbers(self) -> (u8, u64, u32) {
+        match self {
+            Self::Acquired => (1, 0, 0),
+            Self::Retry { after } => (2, u64::try_from(after.as_millis()).unwrap_or(u64::MAX), 0),
+            Self::Impossible { capacity } => (3, 0, capacity),
+        }
+    }
+}

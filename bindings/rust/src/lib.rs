@@ -1,0 +1,41 @@
+//! A circuit breaker whose every step is proved: safe types over the C interface of Pudvirez, with the
+//! words of throttle-net.
+//!
+//! A [`CircuitBreaker`] stands before a service. It counts failures, opens when its [`Trip`] condition
+//! is met, sheds calls while it is open, and lets a few trials through before it closes again.
+//!
+//! **Settle permits; a manual outcome has no ticket.** Settling a [`Permit`] is exact: its ticket says
+//! which spell of the breaker it belongs to, so a late answer does no harm.
+//! [`record_failure`](CircuitBreaker::record_failure) carries no ticket, and in half-open opens the
+//! breaker whatever spell the answer belonged to.
+//!
+//! **Order.** From a half-open breaker, settling and cancelling the permits of its spell ends the same
+//! in every order exactly when none is a failure or the successes stay below the required number.
+//! Otherwise some order closes the breaker and another opens it.
+//!
+//! The clock, and the reply of an inner limiter, are handed in. See [`Clock`] and [`Decision`].
+#![warn(missing_docs)]
+
+mod breaker;
+mod builder;
+mod clock;
+mod decision;
+mod ffi;
+mod owned;
+mod permit;
+mod refused;
+
+pub use breaker::{BreakerState, CircuitBreaker};
+pub use builder::{CircuitBreakerBuilder, Trip};
+pub use clock::{Clock, ManualClock, SystemClock};
+pub use decision::Decision;
+pub use permit::Permit;
+pub use refused::Refused;
+
+// The README's lines are tested too.
+#[cfg(doctest)]
+#[doc = include_str!("../README.md")]
+struct Readme;
+
+#[cfg(test)]
+mod tests;
