@@ -3,7 +3,7 @@
 mod coverage;
 mod draw;
 pub mod lines;
-mod prng;
+pub mod prng;
 
 use std::io::{self, Write};
 

@@ -1,0 +1,7 @@
+//! The archive journal of document 01, answered by the unchanged Rust.
+
+mod fields;
+pub mod line;
+mod replay;
+
+pub use replay::{LIMIT, Run, replay};
