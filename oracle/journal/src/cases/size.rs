@@ -1,0 +1,56 @@
+//! Around the limit of 65,536 bytes.
+
+use super::{Named, named};
+use crate::LIMIT;
+
+pub fn journals() -> impl Iterator<Item = Named> {
+    let whole = filled(LIMIT);
+    let (header, calls) = whole.split_once('\n').expect("a header");
+    let malformed = whole.replacen("2 S 9 1\n", "2 S 9 2\n", 1);
+    [
+        named("size_at_the_limit", whole.clone()),
+        named("size_feed_past_the_limit", filled(LIMIT + 1)),
+        named("size_digit_past_the_limit", whole.clone() + "1"),
+        named("size_empty_line_past_the_limit", whole.clone() + "\n"),
+        named("size_no_feed_at_the_limit", &filled(LIMIT + 1)[..LIMIT]),
+        named("size_line_across_the_limit", filled(LIMIT + 2)),
+        named("size_much_longer", filled(LIMIT + 30_000)),
+        named("size_malformed_before_the_limit", malformed + "1 A\n"),
+        named(
+            "size_refused_header",
+            format!("W 4097 1 1 1 1\n{header}\n{calls}"),
+        ),
+        named("size_one_line", "1".repeat(LIMIT + 1)),
+        named("size_feeds", "\n".repeat(LIMIT + 1)),
+        named("size_longest_answer", longest_answer()),
+    ]
+    .into_iter()
+}
+
+/// A journal of so many bytes, its last a feed: stale tickets, short answers.
+fn filled(bytes: usize) -> String {
+    let mut journal = "C 2 1000 1 1\n".to_owned();
+    let stale = "18446744073709551615 S 18446744073709551615 1\n";
+    while bytes - journal.len() > stale.len() + 30 {
+        journal += stale;
+    }
+    journal += "2 S 9 1\n";
+    while journal.len() < bytes {
+        let left = bytes - journal.len();
+        journal += &admission(if left <= 23 { left } else { left.min(27) - 4 });
+    }
+    journal
+}
+
+/// An admission of 4 to 23 bytes.
+fn admission(bytes: usize) -> String {
+    format!("{} A\n", "1".repeat(bytes - 3))
+}
+
+/// Shortest lines, each with two numbers of 20 digits in its answer.
+fn longest_answer() -> String {
+    let header = "C 1 18446744073709551615 1 1\n";
+    let opens = "0 Z\n".repeat(99) + "0 F 99 0\n";
+    let shed = "0 A\n".repeat((LIMIT - header.len() - opens.len()) / 4);
+    format!("{header}{opens}{shed}")
+}
