@@ -2,6 +2,7 @@
 
 use super::{Named, named};
 use crate::LIMIT;
+use crate::pad::pad;
 
 pub fn journals() -> impl Iterator<Item = Named> {
     let whole = filled(LIMIT);
@@ -35,16 +36,8 @@ fn filled(bytes: usize) -> String {
         journal += stale;
     }
     journal += "2 S 9 1\n";
-    while journal.len() < bytes {
-        let left = bytes - journal.len();
-        journal += &admission(if left <= 23 { left } else { left.min(27) - 4 });
-    }
+    pad(&mut journal, bytes);
     journal
-}
-
-/// An admission of 4 to 23 bytes.
-fn admission(bytes: usize) -> String {
-    format!("{} A\n", "1".repeat(bytes - 3))
 }
 
 /// Shortest lines, each with two numbers of 20 digits in its answer.
