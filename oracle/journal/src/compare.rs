@@ -14,7 +14,7 @@ use crate::tally::Tally;
 const KEPT: u64 = 10;
 
 /// Feeds handed in after a journal that passes the limit: more than a pipe holds.
-const MORE: [u8; 1 << 20] = [b'\n'; 1 << 20];
+static MORE: [u8; 1 << 20] = [b'\n'; 1 << 20];
 
 /// What came of a comparison.
 #[derive(Default)]

@@ -7,7 +7,7 @@ pub fn journals() -> impl Iterator<Item = Named> {
     fixed.map(|&(name, journal)| named(name, journal))
 }
 
-const JOURNALS: [(&str, &str); 29] = [
+const JOURNALS: [(&str, &str); 30] = [
     (
         "document",
         "C 2 1000 1 1\n10 A\n20 F 0 0\n30 F 0 0\n500 A\n1030 A\n1040 S 1 1\n1050 S 2 1\n",
@@ -108,6 +108,11 @@ const JOURNALS: [(&str, &str); 29] = [
     (
         "later_time_keeps_the_front",
         "W 3 100 10 1 1\n1000 F 0 0\n10 F 0 0\n500 F 0 0\n1001 F 0 0\n1002 F 0 0\n",
+    ),
+    // 10 stays behind 1000 and counts again when the reading goes back.
+    (
+        "older_time_behind_the_front",
+        "W 3 100 10 1 1\n1000 F 0 0\n10 F 0 0\n500 S 0 0\n20 F 0 0\n",
     ),
     // A success evicts: the time 0 is gone when the reading goes back to 50.
     (

@@ -6,7 +6,6 @@ use crate::pad::pad;
 
 pub fn journals() -> impl Iterator<Item = Named> {
     let whole = filled(LIMIT);
-    let (header, calls) = whole.split_once('\n').expect("a header");
     let malformed = whole.replacen("2 S 9 1\n", "2 S 9 2\n", 1);
     [
         named("size_at_the_limit", whole.clone()),
@@ -17,13 +16,10 @@ pub fn journals() -> impl Iterator<Item = Named> {
         named("size_line_across_the_limit", filled(LIMIT + 2)),
         named("size_much_longer", filled(LIMIT + 30_000)),
         named("size_malformed_before_the_limit", malformed + "1 A\n"),
-        named(
-            "size_refused_header",
-            format!("W 4097 1 1 1 1\n{header}\n{calls}"),
-        ),
+        named("size_refused_header", format!("W 4097 1 1 1 1\n{whole}")),
         named("size_one_line", "1".repeat(LIMIT + 1)),
         named("size_feeds", "\n".repeat(LIMIT + 1)),
-        named("size_longest_answer", longest_answer()),
+        named("size_long_answer", long_answer()),
     ]
     .into_iter()
 }
@@ -40,10 +36,11 @@ fn filled(bytes: usize) -> String {
     journal
 }
 
-/// Shortest lines, each with two numbers of 20 digits in its answer.
-fn longest_answer() -> String {
-    let header = "C 1 18446744073709551615 1 1\n";
-    let opens = "0 Z\n".repeat(99) + "0 F 99 0\n";
+/// Shortest lines, each with two numbers of 20 digits in its answer and a
+/// generation of three.
+fn long_answer() -> String {
+    let header = "C 1 18446744073709551615 1 1\n0 F 0 0\n";
+    let opens = "0 Z\n".repeat(98) + "0 F 99 0\n";
     let shed = "0 A\n".repeat((LIMIT - header.len() - opens.len()) / 4);
     format!("{header}{opens}{shed}")
 }
