@@ -6,7 +6,7 @@ use lib.Dec.{eqb}
 use Rattle.error.specs.Choice.{if_then_else_}
 use Rattle.error.specs.Told.{Told as Answer, tell, refused}
 use Rattle.error.specs.declared.Refusal.{Refusal}
-use Rattle.error.specs.declared.Refusal.the-variants.{Time, Limit, Storage, Unsound, Full}
+use Rattle.error.specs.declared.Refusal.the-variants.{Time, Limit, Storage, Unsound, Full, Turn}
 use Rattle.circuit.specs.declared.Admission.{Admission}
 use Rattle.circuit.specs.declared.Admission.the-variants as Admission·is
 use Rattle.circuit.specs.declared.Finished.{Finished}
@@ -69,49 +69,50 @@ kindWidth delayed n v =
 -- ---- the eight answers
 
 -- a refusal has no values, whatever the width says of 0 and of 6 and on
-refused-back : (width : ℕ → ℕ → Width) (r : Refusal) → width 1 0 ≡ none → width 2 0 ≡ none → width 3 0 ≡ none → width 4 0 ≡ none → width 5 0 ≡ none → restored width (packed (refused r)) ≡ refused r
-refused-back width Time p1 p2 p3 p4 p5 = rw p1
-refused-back width Limit p1 p2 p3 p4 p5 = rw p2
-refused-back width Storage p1 p2 p3 p4 p5 = rw p3
-refused-back width Unsound p1 p2 p3 p4 p5 = rw p4
-refused-back width Full p1 p2 p3 p4 p5 = rw p5
+refused-back : (width : ℕ → ℕ → Width) (r : Refusal) → width 1 0 ≡ none → width 2 0 ≡ none → width 3 0 ≡ none → width 4 0 ≡ none → width 5 0 ≡ none → width 11 0 ≡ none → restored width (packed (refused r)) ≡ refused r
+refused-back width Time p1 p2 p3 p4 p5 p11 = rw p1
+refused-back width Limit p1 p2 p3 p4 p5 p11 = rw p2
+refused-back width Storage p1 p2 p3 p4 p5 p11 = rw p3
+refused-back width Unsound p1 p2 p3 p4 p5 p11 = rw p4
+refused-back width Full p1 p2 p3 p4 p5 p11 = rw p5
+refused-back width Turn p1 p2 p3 p4 p5 p11 = rw p11
 
 pub admission-back : (a : Admission) → restored ticketWidth (packed (admissionTold a)) ≡ admissionTold a
 admission-back (Admission·is.Granted t) = refl
 admission-back (Admission·is.Shed d) = refl
-admission-back (Admission·is.Refused r) = refused-back ticketWidth r refl refl refl refl refl
+admission-back (Admission·is.Refused r) = refused-back ticketWidth r refl refl refl refl refl refl
 
 pub finished-back : (a : Finished) → restored delayWidth (packed (finishedTold a)) ≡ finishedTold a
 finished-back Finished·is.Done = refl
-finished-back (Finished·is.Refused r) = refused-back delayWidth r refl refl refl refl refl
+finished-back (Finished·is.Refused r) = refused-back delayWidth r refl refl refl refl refl refl
 
 pub tried-back : (a : Tried) → restored ticketWidth (packed (triedTold a)) ≡ triedTold a
 tried-back (Tried·is.Granted t) = refl
 tried-back (Tried·is.Shed d) = refl
 tried-back Tried·is.Retry = refl
 tried-back (Tried·is.Impossible cost capacity) = refl
-tried-back (Tried·is.Refused r) = refused-back ticketWidth r refl refl refl refl refl
+tried-back (Tried·is.Refused r) = refused-back ticketWidth r refl refl refl refl refl refl
 
 pub standing-back : (a : Standing) → restored delayWidth (packed (standingTold a)) ≡ standingTold a
 standing-back Standing·is.Admits = refl
 standing-back (Standing·is.Shed d) = refl
-standing-back (Standing·is.Refused r) = refused-back delayWidth r refl refl refl refl refl
+standing-back (Standing·is.Refused r) = refused-back delayWidth r refl refl refl refl refl refl
 
 pub notice-back : (a : Notice) → restored countWidth (packed (noticeTold a)) ≡ noticeTold a
 notice-back (Notice·is.Refund cost) = refl
-notice-back (Notice·is.Refused r) = refused-back countWidth r refl refl refl refl refl
+notice-back (Notice·is.Refused r) = refused-back countWidth r refl refl refl refl refl refl
 
 pub decided-back : (a : Decided) → restored (kindWidth 2) (packed (decidedTold a)) ≡ decidedTold a
 decided-back (Decided·is.Is Decision·is.Acquired) = refl
 decided-back (Decided·is.Is (Decision·is.Retry d)) = refl
 decided-back (Decided·is.Is Decision·is.Impossible) = refl
-decided-back (Decided·is.Refused r) = refused-back (kindWidth 2) r refl refl refl refl refl
+decided-back (Decided·is.Refused r) = refused-back (kindWidth 2) r refl refl refl refl refl refl
 
 pub reserved-back : (a : Reserved) → restored (kindWidth 1) (packed (reservedTold a)) ≡ reservedTold a
 reserved-back (Reserved·is.Is (Reservation·is.Wait d)) = refl
 reserved-back (Reserved·is.Is Reservation·is.Nothing) = refl
-reserved-back (Reserved·is.Refused r) = refused-back (kindWidth 1) r refl refl refl refl refl
+reserved-back (Reserved·is.Refused r) = refused-back (kindWidth 1) r refl refl refl refl refl refl
 
 pub counted-back : (a : Counted) → restored countWidth (packed (countedTold a)) ≡ countedTold a
 counted-back (Counted·is.Count n) = refl
-counted-back (Counted·is.Refused r) = refused-back countWidth r refl refl refl refl refl
+counted-back (Counted·is.Refused r) = refused-back countWidth r refl refl refl refl refl refl

@@ -17,7 +17,7 @@ use Rattle.trip.specs.Settings.{isTime, millis, zeroRatio, oneRatio, clampedRat
 use Rattle.trip.proofs.Settings.{clamped-number}
 use Rattle.circuit.specs.Record.{soundRatio, soundPolicy, soundConfig}
 use Rattle.circuit.specs.Calls.{fresh}
-use Rattle.circuit.proofs.Cases.{if-cases}
+use Rattle.error.proofs.Choice.{if-cases}
 use Rattle.circuit.proofs.Keeps.{SoundAt, sound-fresh}
 
 -- ---- floats: what is not below a number is at least it

@@ -8,16 +8,11 @@ use borrow.Author.Tests.{eqb-true, eqb-false, ltb-true}
 use Rattle.error.specs.Choice.{if_then_else_}
 use Rattle.error.specs.Told.{refused}
 use Rattle.error.specs.declared.Refusal.the-variants.{Full}
-use Rattle.history.proofs.Laws.{and-split}
+use Rattle.error.proofs.Choice.{if-cases, and-split}
 use Rattle.trip.specs.Policy.{tripped}
 use Rattle.circuit.specs.declared.Ticket.{Ticket}
 use Rattle.circuit.specs.Record.{Settings, State, Closed, HalfOpen, Open}
 use Rattle.circuit.specs.Rules.{Outcome, outcome, done, withCounts, withHistory, opening, halfOpening, ticketOf, Admitted, granted, shed, admit, Call, failure, ticket, inHalfOpen, recorded, noRoom, inClosed, act, finish}
-
--- a choice
-pub if-cases : {A : Type 0} (P : A → Type 0) (x : Bool) {a b : A} → (x ≡ true → P a) → (x ≡ false → P b) → P (if x then a else b)
-if-cases P true f g = f refl
-if-cases P false f g = g refl
 
 -- with a trait probe in HalfOpen, or without
 pub probe-cases : {A : Type 0} (P : A → Type 0) (st : State) {a b : A} → (st .state ≡ HalfOpen → P a) → P b

@@ -6,30 +6,45 @@ use Prim.Native.Nat.{ℕ}
 use lib.ListN.{length}
 use borrow.Author.Tests.{eq-eqb, ne-eqb}
 use Rattle.error.specs.Told.{Told, tell, refused}
+use Rattle.error.specs.declared.Refusal.{Refusal}
 use Rattle.error.specs.declared.Refusal.the-variants.{Storage, Unsound}
 use Rattle.history.specs.Items.{padded}
 use Rattle.circuit.specs.declared.Breaker.{Breaker}
 use Rattle.circuit.specs.Record.{Settings, State, settings, state, stored, sound}
 use Rattle.circuit.specs.Rules.{Outcome, outcome}
-use Rattle.circuit.specs.Calls.{After, after, kept, onSound, asked}
+use Rattle.circuit.specs.Calls.{After, after, guarded, kept, onSound, asked}
 use Rattle.circuit.specs.Locked.{Holds}
 use Rattle.circuit.proofs.Record.{stored-state, padded-state, sound-places}
 
 pub holds : (b : Breaker) (s : List ℕ) → sound b s ≡ true → Holds (b .config) (state b s) b s
 holds b s ok = (stored-state b s ok, padded-state b s ok)
 
+-- ---- the tests, for whatever a call answers
+
+module _ {A : Type 0} (refusal : Refusal → A) (answer : A) (b : Breaker) (s : List ℕ) where
+  pub guarded-storage : (length s ≡ 4096 → ⊥) → refusal Storage ≡ guarded refusal answer b s
+  guarded-storage n = simp (ne-eqb (length s) 4096 n)
+
+  pub guarded-refused : length s ≡ 4096 → sound b s ≡ false → refusal Unsound ≡ guarded refusal answer b s
+  guarded-refused p e = simp (eq-eqb (length s) 4096 p, e)
+
+  pub guarded-done : sound b s ≡ true → answer ≡ guarded refusal answer b s
+  guarded-done ok = simp (eq-eqb (length s) 4096 (sound-places b s ok), ok)
+
+-- ---- a call that may change the breaker, and one that only reads it
+
 module _ (rule : Settings → State → Outcome) (b : Breaker) (s : List ℕ) where
   pub sound-storage : (length s ≡ 4096 → ⊥) → after (refused Storage) b s ≡ onSound rule b s
   unfolding onSound
-  sound-storage n = simp (ne-eqb (length s) 4096 n)
+  sound-storage n = guarded-storage (λ r. after (refused r) b s) _ b s n
 
   pub sound-refused : length s ≡ 4096 → sound b s ≡ false → after (refused Unsound) b s ≡ onSound rule b s
   unfolding onSound
-  sound-refused p e = simp (eq-eqb (length s) 4096 p, e)
+  sound-refused p e = guarded-refused (λ r. after (refused r) b s) _ b s p e
 
   pub sound-done : sound b s ≡ true → kept (b .config) (rule (settings (b .config)) (state b s)) ≡ onSound rule b s
   unfolding onSound
-  sound-done ok = simp (eq-eqb (length s) 4096 (sound-places b s ok), ok)
+  sound-done ok = guarded-done (λ r. after (refused r) b s) _ b s ok
 
   -- a rule that keeps the list: the record after it, with the places as they were
   pub sound-fields : sound b s ≡ true → (t : Told) (st : State) (next : Breaker) → rule (settings (b .config)) (state b s) ≡ outcome t st → next ≡ stored (b .config) st
@@ -40,12 +55,12 @@ module _ (rule : Settings → State → Outcome) (b : Breaker) (s : List ℕ) wh
 module _ (rule : Settings → State → Told) (b : Breaker) (s : List ℕ) where
   pub asked-storage : (length s ≡ 4096 → ⊥) → refused Storage ≡ asked rule b s
   unfolding asked
-  asked-storage n = simp (ne-eqb (length s) 4096 n)
+  asked-storage n = guarded-storage refused _ b s n
 
   pub asked-refused : length s ≡ 4096 → sound b s ≡ false → refused Unsound ≡ asked rule b s
   unfolding asked
-  asked-refused p e = simp (eq-eqb (length s) 4096 p, e)
+  asked-refused p e = guarded-refused refused _ b s p e
 
   pub asked-done : sound b s ≡ true → rule (settings (b .config)) (state b s) ≡ asked rule b s
   unfolding asked
-  asked-done ok = simp (eq-eqb (length s) 4096 (sound-places b s ok), ok)
+  asked-done ok = guarded-done refused _ b s ok

@@ -20,7 +20,7 @@ use Rattle.error.specs.declared.Refusal.the-variants.{Full}
 use Rattle.history.specs.declared.Items.{Items}
 use Rattle.history.specs.declared.Items.the-variants.{Nothing, Outcomes, Times}
 use Rattle.history.specs.Items.{padded, fits, soundList}
-use Rattle.history.proofs.Laws.{and-split}
+use Rattle.error.proofs.Choice.{if-cases, and-split}
 use Rattle.history.proofs.Sound.{view-padded, outcomes-fit}
 use Rattle.history.proofs.Held.{clear-sound, outcome-sound, time-sound, evict-sound}
 use Rattle.trip.specs.declared.Config.{Config}
@@ -34,7 +34,7 @@ use Rattle.circuit.specs.Record.{Settings, State, Closed, HalfOpen, Open
 use Rattle.circuit.specs.Rules.{Outcome, outcome, withCounts, withHistory, moved, opening, closing, halfOpening, counting, recorded, noRoom, Call, success, failure, abort, traitAbort, probes, inHalfOpen, inClosed, finish, settling, ticketOf, released, manual, Admitted, granted, shed, admit, noted, viaTrait, admitAs, reset}
 use Rattle.circuit.specs.Calls.{fresh, answered, admission, tryInner, tryAdmit, cancel, isAcquired, handedOn, acquireInner, acquireCost, isReserved, reserveInner, reserve, refund}
 use Rattle.circuit.specs.Orders.{run}
-use Rattle.circuit.proofs.Cases.{if-cases, probe-cases, admit-cases, failing, finish-cases, failure-cases}
+use Rattle.circuit.proofs.Cases.{probe-cases, admit-cases, failing, finish-cases, failure-cases}
 use Rattle.circuit.proofs.Record.{SoundShared, Sound, config→, shared→, →shared, sound→, →sound, stored-state, padded-state}
 
 -- a state is sound under its settings: what is stored of it passes the test

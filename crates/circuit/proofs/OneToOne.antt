@@ -1,15 +1,13 @@
 -- An answer is known by what it tells. Assumes nothing.
 use Prim.Native.Nat.{ℕ}
-use mathlib.Core.Path.{_≡_, refl, sym, ap, _∙_}
+use mathlib.Core.Path.{_≡_, refl, ap}
 use mathlib.Core.Bool.{Bool, true, false}
 use mathlib.Core.List.{List, [], _∷_}
-use lib.Dec.{eqb, leb}
-use lib.ListN.{getD}
+use lib.Dec.{eqb}
 use Rattle.error.specs.Choice.{if_then_else_}
-use Rattle.error.specs.Told.{Told, numberOf, refused}
+use Rattle.error.specs.Told.{Told}
 use Rattle.error.specs.declared.Refusal.{Refusal}
-use Rattle.error.specs.declared.Refusal.the-variants.{Time, Limit, Storage, Unsound, Full}
-use Rattle.error.proofs.OneToOne.{named, named-number}
+use Rattle.error.proofs.OneToOne.{one, read, read-refused, at}
 use Rattle.history.specs.Change.{bit}
 use Rattle.circuit.specs.declared.Ticket.{Ticket}
 use Rattle.circuit.specs.declared.Delay.{Delay}
@@ -35,33 +33,15 @@ use Rattle.circuit.specs.declared.Counted.{Counted}
 use Rattle.circuit.specs.declared.Counted.the-variants as Counted·is
 use Rattle.circuit.specs.Answers.{delayOf, admissionTold, finishedTold, triedTold, standingTold, noticeTold, decidedTold, reservedTold, countedTold}
 
--- an answer that is read back from what it tells is known by it
-one : {A : Type 0} (told : A → Told) (meant : Told → A) → ((a : A) → meant (told a) ≡ a) → (a b : A) → told a ≡ told b → a ≡ b
-one told meant back a b e = sym (back a) ∙ ap meant e ∙ back b
-
--- reading an answer back: success by the first function, number 6 to 8 by the second, else a refusal
-abbrev read : {A : Type 0} → (List ℕ → A) → (ℕ → List ℕ → A) → (Refusal → A) → Told → A
-read good more refusal t = if eqb (t .number) 0 then good (t .values) else if leb 6 (t .number) then more (t .number) (t .values) else refusal (named (t .number))
-
-read-refused : {A : Type 0} (good : List ℕ → A) (more : ℕ → List ℕ → A) (refusal : Refusal → A) (r : Refusal) → read good more refusal (refused r) ≡ refusal r
-read-refused good more refusal Time = refl
-read-refused good more refusal Limit = refl
-read-refused good more refusal Storage = refl
-read-refused good more refusal Unsound = refl
-read-refused good more refusal Full = refl
-
-abbrev at : List ℕ → ℕ → ℕ
-at vs i = getD vs i 0
-
-abbrev ticketIn : List ℕ → Ticket
+abbrev pub ticketIn : List ℕ → Ticket
 ticketIn vs = record { generation = at vs 0; probe = eqb (at vs 1) 1 }
 
 -- a bit is read back
-bit-back : (p : Bool) → eqb (bit p) 1 ≡ p
+pub bit-back : (p : Bool) → eqb (bit p) 1 ≡ p
 bit-back true = refl
 bit-back false = refl
 
-ticket-back : (t : Ticket) → ticketIn (t .generation ∷ bit (t .probe) ∷ []) ≡ t
+pub ticket-back : (t : Ticket) → ticketIn (t .generation ∷ bit (t .probe) ∷ []) ≡ t
 ticket-back t = ap (λ (p : Bool). record { generation = t .generation; probe = p }) (bit-back (t .probe))
 
 -- ---- the eight answers
@@ -111,7 +91,7 @@ standing-one = one standingTold (read (λ vs. Standing·is.Admits) shedStanding 
     back (Standing·is.Shed d) = refl
     back (Standing·is.Refused r) = read-refused (λ vs. Standing·is.Admits) shedStanding Standing·is.Refused r
 
--- the others tell no number from 6 to 8
+-- the others tell no number from 6 to 10
 abbrev plain : {A : Type 0} → (List ℕ → A) → (Refusal → A) → Told → A
 plain good refusal = read good (λ n vs. good vs) refusal
 

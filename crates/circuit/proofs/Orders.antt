@@ -19,7 +19,8 @@ use Rattle.circuit.specs.declared.Breaker.{Breaker}
 use Rattle.circuit.specs.Record.{Settings, State, Closed, HalfOpen, Open, settings, state, stored}
 use Rattle.circuit.specs.Rules.{done, next, opening, closing, counting, Call, success, failure, abort, traitAbort, ticket, probes, inHalfOpen, inClosed, act, finish}
 use Rattle.circuit.specs.Orders.{Ran, run, succeeds, fails, many, AllOf, known, onlyKnown, nothing, putBack, Harmless, Equal, Theorem}
-use Rattle.circuit.proofs.Cases.{if-cases, finish-cases, failure-cases}
+use Rattle.error.proofs.Choice.{if-cases}
+use Rattle.circuit.proofs.Cases.{finish-cases, failure-cases}
 use Rattle.circuit.proofs.Record.{sound→, shared→}
 
 -- ---- the counters and the generation of a state

@@ -13,7 +13,7 @@ use lib.ListN.{length, take}
 use lib.Seq.{length-take-le}
 use borrow.Author.Tests.{leb-true, ltb-true, eqb-true, eqb-false, le-leb, lt-ltb, eq-eqb}
 use Rattle.history.specs.Items.{view, padded, soundList}
-use Rattle.history.proofs.Laws.{and-split}
+use Rattle.error.proofs.Choice.{and-split}
 use Rattle.history.proofs.Sound as List·
 use lib.Ieee.{binary64, ofBits}
 use Rattle.trip.specs.declared.Config.{Config}

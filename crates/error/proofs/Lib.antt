@@ -1,1 +1,3 @@
+-- Laws of refusals and choices.
+pub mod Choice
 pub mod OneToOne

@@ -2,7 +2,7 @@
 use Prim.Native.Nat.{ℕ}
 use mathlib.Core.List.{List, [], _∷_}
 use Rattle.error.specs.declared.Refusal.{Refusal}
-use Rattle.error.specs.declared.Refusal.the-variants.{Time, Limit, Storage, Unsound, Full}
+use Rattle.error.specs.declared.Refusal.the-variants.{Time, Limit, Storage, Unsound, Full, Turn}
 
 -- The number of the table, 0 where the call was not refused, and the values returned with it.
 pub record Told : Type 0 where
@@ -19,7 +19,8 @@ numberOf Limit = 2
 numberOf Storage = 3
 numberOf Unsound = 4
 numberOf Full = 5
+numberOf Turn = 11
 
--- rows 1 to 5 return the number alone
+-- rows 1 to 5 and 11 return the number alone
 abbrev pub refused : Refusal → Told
 refused r = tell (numberOf r) []

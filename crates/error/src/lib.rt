@@ -14,6 +14,8 @@ pub enum Refusal {
     Unsound,
     // 5: a failure while Closed, with 4,096 older times left after eviction
     Full,
+    // 11: a reply kind other than 1 to 3, or a wait that has ended
+    Turn,
 }
 
 // The number of a refusal in document 01's table.
@@ -27,5 +29,6 @@ pub fn number(refusal: Refusal) -> u32
         Refusal::Storage => 3,
         Refusal::Unsound => 4,
         Refusal::Full => 5,
+        Refusal::Turn => 11,
     }
 }

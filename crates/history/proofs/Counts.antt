@@ -17,7 +17,7 @@ use lib.Dec.{ltb, eqb}
 use borrow.Author.Tests.{ltb-true}
 use Rattle.error.specs.Choice.{if_then_else_}
 use Rattle.history.specs.Items.{allBelow, sumOf, total, failures}
-use Rattle.history.proofs.Laws.{and-split}
+use Rattle.error.proofs.Choice.{and-split}
 
 pub sum-append : (f : ℕ → ℕ) (xs ys : List ℕ) → sumOf f (xs ++ ys) ≡ sumOf f xs + sumOf f ys
 unfolding sumOf

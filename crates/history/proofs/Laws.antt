@@ -1,6 +1,6 @@
 -- Laws on bits, on tests of every item, and on parts of a list. Assumes nothing.
 use mathlib.Core.Path.{_≡_, refl, sym, ap, _∙_}
-use mathlib.Core.Bool.{Bool, true, false, _&&_, and-assoc, and-true, false≢true}
+use mathlib.Core.Bool.{Bool, true, false, _&&_, and-assoc, and-true}
 use mathlib.Core.List.{List, [], _∷_, _++_}
 use Prim.Native.Nat.{ℕ, zero, suc, _+_, _-_, _≤_, _<_, _^_, min}
 use native.Mathlib.Nat.{le-of-eq, zero-min, min-zero, suc-min-suc, zero-add, suc-add, add-comm}
@@ -11,12 +11,8 @@ use lib.Seq.{take-suc, take-nil, take-all, length-take-le, getD-append-add, getD
 use lib.Bits.{bitOr, or-lt, or-comm, or-add-and, and-le-r}
 use lib.Dec.{ltb}
 use borrow.Author.Tests.{ltb-true, ltb-false, lt-ltb, le-ltb}
+use Rattle.error.proofs.Choice.{and-split}
 use Rattle.history.specs.Items.{allBelow}
-
--- ---- tests
-pub and-split : (a b : Bool) → (a && b) ≡ true → (a ≡ true) × (b ≡ true)
-and-split true b e = (refl, e)
-and-split false b e = absurd (false≢true e)
 
 -- ---- bits
 or-ge : (a b : ℕ) → a ≤ bitOr a b

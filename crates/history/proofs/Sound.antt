@@ -14,7 +14,7 @@ use borrow.Author.Tests.{ltb-true, leb-true, eqb-true, le-leb, eq-eqb}
 use Rattle.history.specs.declared.Items.{Items}
 use Rattle.history.specs.declared.Items.the-variants.{Nothing, Outcomes, Times}
 use Rattle.history.specs.Items.{view, padded, allBelow, fits, known, soundList}
-use Rattle.history.proofs.Laws.{and-split}
+use Rattle.error.proofs.Choice.{and-split}
 
 pub fits-outcomes : (w n : ℕ) → fits (Outcomes w) n ≡ true → (1 ≤ w) × (w ≤ 4096) × (n ≤ w)
 fits-outcomes w n e =
