@@ -1,0 +1,5 @@
+-- Laws of waits.
+pub mod Limits
+pub mod OneToOne
+pub mod Steps
+pub mod Walks

@@ -1,0 +1,141 @@
+-- The steps of a turn, by the tests that the code makes. Assumes nothing.
+use Prim.Native.Nat.{ℕ, _+_, _-_, _≤_, _<_, _^_, min, max}
+use native.Mathlib.Omega.{arith}
+use mathlib.Core.Path.{_≡_, refl, sym, ap, _∙_}
+use mathlib.Core.Bool.{Bool, true, false}
+use lib.Dec.{eqb, leb, ltb}
+use borrow.Author.Tests.{eq-eqb, ne-eqb, le-leb, lt-leb, lt-ltb, le-ltb}
+use Rattle.error.specs.Choice.{if_then_else_}
+use Rattle.wait.specs.declared.Wait.{Wait}
+use Rattle.wait.specs.declared.Observed.{Observed}
+use Rattle.wait.specs.declared.Act.the-variants.{Sleep, SleepUnlessResumed, Yield, LookAgain}
+use Rattle.wait.specs.declared.Ending.the-variants.{Done, Deadline, Never}
+use Rattle.wait.specs.declared.Dropped.the-variants.{GiveBack}
+use Rattle.wait.specs.declared.Move.{Move}
+use Rattle.wait.specs.declared.Move.the-variants.{Goes, Ends}
+use Rattle.wait.proofs.Limits.{times, bounded, →bounded}
+use Rattle.wait.specs.Locked.{budget}
+use Rattle.wait.specs.Turns.{endedWait, isHolding, hasEnded, turnInBounds, waitInBounds, Budget, unlimited, left, remaining, exceeds, usedUp, smaller, withZeros, sleeping, naps, retriesZero, retries}
+use Rattle.wait.specs.Keep.{holding, postponed, napOf, holdsOn, checks, grants}
+use Rattle.wait.specs.Run.{dropping, dropped}
+
+-- ---- a budget as a number
+
+pub used-up : (b : Budget) → budget b ≡ 0 → usedUp b ≡ true
+used-up unlimited e = absurd (omega (arith, e))
+used-up (left r) e = eq-eqb r 0 e
+
+pub not-used-up : (b : Budget) → (budget b ≡ 0 → ⊥) → usedUp b ≡ false
+not-used-up unlimited n = refl
+not-used-up (left r) n = ne-eqb r 0 n
+
+pub is-over : (b : Budget) (n : ℕ) → n ≤ 2 ^ 64 - 1 → budget b < n → exceeds n b ≡ true
+is-over unlimited n f l = absurd (omega (arith, f, l))
+is-over (left r) n f l = lt-ltb r n l
+
+pub not-over : (b : Budget) (n : ℕ) → n ≤ budget b → exceeds n b ≡ false
+not-over unlimited n l = refl
+not-over (left r) n l = le-ltb r n l
+
+smaller-left : (b : Budget) (n : ℕ) → n ≤ 2 ^ 64 - 1 → budget b < n → smaller n b ≡ budget b
+smaller-left unlimited n f l = absurd (omega (arith, f, l))
+smaller-left (left r) n f l = omega (arith, l)
+
+smaller-itself : (b : Budget) (n : ℕ) → n ≤ budget b → smaller n b ≡ n
+smaller-itself unlimited n l = refl
+smaller-itself (left r) n l = omega (arith, l)
+
+-- ---- retries
+
+module _ (w : Wait) (t : Observed) where
+  pub zero-yields : w .zeros ≤ 4 → Goes Yield w ≡ retriesZero w t
+  unfolding retriesZero
+  zero-yields l = simp (le-leb _ _ l)
+
+  pub zero-over : 4 < w .zeros → budget (remaining w (t .clock)) ≡ 0 → Ends (Deadline 0) ≡ retriesZero w t
+  unfolding retriesZero
+  zero-over l e = simp (lt-leb _ _ l, used-up (remaining w (t .clock)) e)
+
+  pub zero-naps : (n : ℕ) → 4 < w .zeros → (budget (remaining w (t .clock)) ≡ 0 → ⊥) → smaller 1000000 (remaining w (t .clock)) ≡ n → naps n w t ≡ retriesZero w t
+  unfolding retriesZero
+  zero-naps n l e s = simp (lt-leb _ _ l, not-used-up (remaining w (t .clock)) e, s)
+
+  pub zero-short : (n : ℕ) → 4 < w .zeros → n ≡ budget (remaining w (t .clock)) → (n ≡ 0 → ⊥) → n < 1000000 → naps n w t ≡ retriesZero w t
+  zero-short n l e z s =
+      zero-naps n l (λ q. z (e ∙ q)) (smaller-left (remaining w (t .clock)) 1000000 (omega arith) (omega (arith, e, s)) ∙ sym e)
+
+  pub zero-long : (n : ℕ) → 4 < w .zeros → n ≡ budget (remaining w (t .clock)) → (n ≡ 0 → ⊥) → 1000000 ≤ n → naps 1000000 w t ≡ retriesZero w t
+  zero-long n l e z s = zero-naps 1000000 l (λ q. z (e ∙ q)) (smaller-itself (remaining w (t .clock)) 1000000 (omega (arith, e, s)))
+
+  pub retry-over : (n : ℕ) → t .duration ≤ 2 ^ 64 - 1 → n ≡ budget (remaining w (t .clock)) → n < t .duration → Ends (Deadline 0) ≡ retries w t
+  unfolding retries
+  retry-over n f e l = simp (is-over (remaining w (t .clock)) (t .duration) f (omega (arith, e, l)))
+
+  pub retry-zero : (n : ℕ) → n ≡ budget (remaining w (t .clock)) → t .duration ≤ n → t .duration ≡ 0
+      → retriesZero (withZeros (min (w .zeros + 1) 5) w) t ≡ retries w t
+  unfolding retries
+  retry-zero n e l z = simp (not-over (remaining w (t .clock)) (t .duration) (omega (arith, e, l)), eq-eqb _ _ z)
+
+  pub retry-naps : (n : ℕ) → n ≡ budget (remaining w (t .clock)) → t .duration ≤ n → (t .duration ≡ 0 → ⊥) → naps (t .duration) (withZeros 0 w) t ≡ retries w t
+  unfolding retries
+  retry-naps n e l z = simp (not-over (remaining w (t .clock)) (t .duration) (omega (arith, e, l)), ne-eqb _ _ z)
+
+-- ---- a held grant
+
+module _ (t : Observed) (w : Wait) where
+  pub grown : w .seen < t .«postponed_after» → holding (w .due + (t .«postponed_after» - w .seen)) (t .«postponed_after») w ≡ postponed t w
+  grown l = ap (λ (s : ℕ). holding (w .due + (t .«postponed_after» - w .seen)) s w) (omega (arith, l))
+
+  pub not-grown : t .«postponed_after» ≤ w .seen → holding (w .due) (w .seen) w ≡ postponed t w
+  not-grown l =
+      ap (λ (d : ℕ). holding d (w .seen) w) (omega (arith, l)) ∙ ap (λ (s : ℕ). holding (w .due + (t .«postponed_after» - w .seen)) s w) (omega (arith, l))
+
+  pub hold-over : (nap n : ℕ) → nap ≤ 2 ^ 64 - 1 → nap ≡ napOf t w → n ≡ budget (remaining w (t .clock)) → n < nap → Ends (Deadline 1) ≡ holdsOn t w
+  hold-over nap n f p e l = simp (← p, is-over (remaining w (t .clock)) nap f (omega (arith, e, l)))
+
+  pub hold-on : (nap n : ℕ) → nap ≡ napOf t w → n ≡ budget (remaining w (t .clock)) → nap ≤ n
+      → Goes (sleeping nap (t .«epoch_after») (t .pause)) w ≡ holdsOn t w
+  hold-on nap n p e l = simp (← p, not-over (remaining w (t .clock)) nap (omega (arith, e, l)))
+
+  pub nap-pause : (t .pause ≡ 0 → ⊥) → t .pause ≡ napOf t w
+  nap-pause n = simp (ne-eqb _ _ n)
+
+  pub nap-left : t .pause ≡ 0 → w .due - t .clock ≡ napOf t w
+  nap-left e = simp (eq-eqb _ _ e)
+
+module _ (w : Wait) (t : Observed) where
+  pub check-paused : (t .pause ≡ 0 → ⊥) → holdsOn t (postponed t w) ≡ checks w t
+  unfolding checks
+  check-paused n = simp (ne-eqb _ _ n)
+
+  pub check-done : t .pause ≡ 0 → postponed t w .due ≤ t .clock → Ends Done ≡ checks w t
+  unfolding checks
+  check-done e l = simp (eq-eqb _ _ e, le-leb _ _ l)
+
+  pub check-early : t .pause ≡ 0 → t .clock < postponed t w .due → holdsOn t (postponed t w) ≡ checks w t
+  unfolding checks
+  check-early e l = simp (eq-eqb _ _ e, lt-leb _ _ l)
+
+  pub grant-now : t .duration ≡ 0 → checks (holding (t .clock + t .duration) (t .«postponed_before») w) t ≡ grants w t
+  unfolding grants
+  grant-now e = simp (eq-eqb _ _ e)
+
+  pub grant-later : (t .duration ≡ 0 → ⊥) → Goes (Sleep (t .duration)) (holding (t .clock + t .duration) (t .«postponed_before») w) ≡ grants w t
+  unfolding grants
+  grant-later n = simp (ne-eqb _ _ n)
+
+  -- a fresh grant is within its bounds
+  pub grant-bounded : turnInBounds t ≡ true → waitInBounds w ≡ true → waitInBounds (holding (t .clock + t .duration) (t .«postponed_before») w) ≡ true
+  grant-bounded e b =
+      let ts = times t e in
+      →bounded _
+      (record {
+        deadline = bounded w b .deadline;
+        seen = ts .before;
+        due = omega (arith, ts .clock, ts .duration);
+      })
+
+-- ---- a dropped wait
+pub drop-ends : (w : Wait) (n : ℕ) → hasEnded w ≡ false → waitInBounds w ≡ true → (if isHolding w then 1 else 0) ≡ n → dropping (GiveBack n) endedWait ≡ dropped w
+unfolding dropped
+drop-ends w n e b h = rw (e, b, h)

@@ -1,0 +1,189 @@
+-- A turn and a run of turns, by their tests and steps. Assumes nothing.
+use Prim.Native.Nat.{ℕ, zero, suc, _+_, _-_, _/_, _%_, _≤_, _<_}
+use native.Mathlib.Omega.{arith}
+use mathlib.Core.Path.{_≡_, refl, sym, ap, _∙_}
+use mathlib.Core.Bool.{Bool, true, false, not, _&&_, _||_, false≢true}
+use mathlib.Core.List.{List, [], _∷_}
+use lib.Dec.{eqb}
+use lib.ListN.{length, take, drop, getD, length-drop}
+use lib.Seq.{take-nil, drop-drop, getD-drop}
+use borrow.Author.Tests.{eq-eqb, ne-eqb}
+use Rattle.error.specs.Choice.{if_then_else_}
+use Rattle.error.specs.declared.Refusal.{Refusal}
+use Rattle.error.specs.declared.Refusal.the-variants as Refusal·is
+use Rattle.error.proofs.Choice.{and-split}
+use Rattle.wait.specs.declared.Wait.{Wait}
+use Rattle.wait.specs.declared.Observed.{Observed}
+use Rattle.wait.specs.declared.Act.{Act}
+use Rattle.wait.specs.declared.Ending.{Ending}
+use Rattle.wait.specs.declared.Tested.{Tested}
+use Rattle.wait.specs.declared.Tested.the-variants.{Passes, Fails}
+use Rattle.wait.specs.declared.Move.{Move}
+use Rattle.wait.specs.declared.Move.the-variants.{Goes, Ends}
+use Rattle.wait.specs.declared.Turned.the-variants as Turned·is
+use Rattle.wait.specs.declared.Ran.the-variants as Ran·is
+use Rattle.wait.specs.declared.Running.{Running}
+use Rattle.wait.specs.Turns.{endedWait, hasEnded, turnInBounds, waitInBounds}
+use Rattle.wait.specs.Keep.{turning, leaves, isKnown, tested, moves, turned}
+use Rattle.wait.specs.Run.{running, counted, standing, steps, turnOf, turnsOf, runs}
+
+-- ---- the tests of a turn
+
+abbrev passed : Tested → Bool
+passed Passes = true
+passed (Fails r) = false
+
+abbrev why : Tested → Refusal
+why Passes = Refusal·is.Turn
+why (Fails r) = r
+
+module _ {A : Type 0} (f : Refusal → A) (a : A) where
+  pick-fails : (x y : Bool) (r : Refusal) → Fails r ≡ (if x then Fails Refusal·is.Turn else if y then Fails Refusal·is.Time else Passes)
+      → f r ≡ (if x then f Refusal·is.Turn else if y then f Refusal·is.Time else a)
+  pick-fails true y r e = ap (λ (v : Tested). f (why v)) e
+  pick-fails false true r e = ap (λ (v : Tested). f (why v)) e
+  pick-fails false false r e = absurd (false≢true (ap passed e))
+
+  pick-passes : (x y : Bool) → Passes ≡ (if x then Fails Refusal·is.Turn else if y then Fails Refusal·is.Time else Passes)
+      → (if x then f Refusal·is.Turn else if y then f Refusal·is.Time else a) ≡ a
+  pick-passes true y e = absurd (false≢true (sym (ap passed e)))
+  pick-passes false true e = absurd (false≢true (sym (ap passed e)))
+  pick-passes false false e = refl
+
+module _ {A : Type 0} (f : Refusal → A) (a : A) (w : Wait) (t : Observed) where
+  pub tested-fails : (r : Refusal) → Fails r ≡ tested Fails Passes w t → f r ≡ tested f a w t
+  tested-fails r e = pick-fails f a (hasEnded w || not (isKnown (t .kind))) (not (waitInBounds w && turnInBounds t)) r e
+
+  pub tested-passes : Passes ≡ tested Fails Passes w t → tested f a w t ≡ a
+  tested-passes e = pick-passes f a (hasEnded w || not (isKnown (t .kind))) (not (waitInBounds w && turnInBounds t)) e
+
+in-bounds : (x y : Bool) → Passes ≡ (if x then Fails Refusal·is.Turn else if not y then Fails Refusal·is.Time else Passes) → y ≡ true
+in-bounds x true e = refl
+in-bounds true false e = absurd (false≢true (sym (ap passed e)))
+in-bounds false false e = absurd (false≢true (sym (ap passed e)))
+
+-- a turn that passes its tests is within its bounds
+pub passes-bounds : (w : Wait) (t : Observed) → Passes ≡ tested Fails Passes w t → (turnInBounds t ≡ true) × (waitInBounds w ≡ true)
+passes-bounds w t e =
+    let b = and-split (waitInBounds w) (turnInBounds t) (in-bounds (hasEnded w || not (isKnown (t .kind))) (waitInBounds w && turnInBounds t) e) in
+    (b .1, b .0)
+
+-- ---- one turn
+
+module _ (w : Wait) (t : Observed) where
+  pub turn-refused : (r : Refusal) → Fails r ≡ tested Fails Passes w t → turning (Turned·is.Refused r) w ≡ turned w t
+  unfolding turned
+  turn-refused r e = tested-fails (λ r. turning (Turned·is.Refused r) w) (leaves (moves w t)) w t r e
+
+  pub turn-passed : (m : Move) → Passes ≡ tested Fails Passes w t → m ≡ moves w t → leaves m ≡ turned w t
+  unfolding turned
+  turn-passed m p e = ap leaves e ∙ sym (tested-passes (λ r. turning (Turned·is.Refused r) w) (leaves (moves w t)) w t p)
+
+-- ---- a run
+
+-- what is left of a run, n turns on
+abbrev pub counting : ℕ → Running → Running
+counting n r = running (r .answer) (n + r .taken) (r .wait)
+
+-- the turns that the limit allows of what lies ahead
+abbrev pub ahead : ℕ → List ℕ → List Observed
+ahead k xs = take k (turnsOf (length xs / 8) xs)
+
+pub none-ahead : (k : ℕ) (xs : List ℕ) → length xs ≡ 0 → ahead k xs ≡ []
+unfolding turnsOf
+none-ahead k xs e = rw e (take-nil k)
+
+pub limit-reached : (xs : List ℕ) (k : ℕ) → k ≡ 0 → ahead k xs ≡ []
+limit-reached xs k e = simp e
+
+pub one-ahead : (k : ℕ) (xs : List ℕ) → 8 ≤ length xs → ahead (suc k) xs ≡ turnOf xs ∷ ahead k (drop 8 xs)
+unfolding turnsOf
+one-ahead k xs m =
+    let n : length xs / 8 ≡ suc (length (drop 8 xs) / 8) = omega (arith, length-drop 8 xs, m) in
+    rw n refl
+
+pub stops-here : (n : ℕ) (ts : List Observed) (w : Wait) → ts ≡ [] → counting n (steps ts w) ≡ running (standing w) n w
+unfolding steps
+stops-here n ts w e = rw e (ap (λ (k : ℕ). running (standing w) k w) (omega arith))
+
+module _ (n : ℕ) (w : Wait) (t : Observed) (ts : List Observed) where
+  pub step-refused : (r : Refusal) → Fails r ≡ tested Fails Passes w t → counting n (steps (t ∷ ts) w) ≡ running (Ran·is.Refused r) n w
+  unfolding steps
+  step-refused r e = ap (counting n) (sym (tested-fails (λ r. running (Ran·is.Refused r) 0 w) _ w t r e)) ∙ ap (λ (k : ℕ). running (Ran·is.Refused r) k w) (omega arith)
+
+  pub step-goes : (act : Act) (next : Wait) → Passes ≡ tested Fails Passes w t → Goes act next ≡ moves w t
+      → counting n (steps (t ∷ ts) w) ≡ counting (n + 1) (steps ts next)
+  unfolding steps
+  step-goes act next p e = ap (counting n) (tested-passes (λ r. running (Ran·is.Refused r) 0 w) _ w t p) ∙ rw (← e) (ap (λ (k : ℕ). running (steps ts next .answer) k (steps ts next .wait)) (omega arith))
+
+  pub step-ends : (e : Ending) → Passes ≡ tested Fails Passes w t → Ends e ≡ moves w t → counting n (steps (t ∷ ts) w) ≡ running (Ran·is.Ends e) (n + 1) endedWait
+  unfolding steps
+  step-ends e p q = ap (counting n) (tested-passes (λ r. running (Ran·is.Refused r) 0 w) _ w t p) ∙ rw (← q) refl
+
+pub run-storage : (w : Wait) (xs : List ℕ) (limit : ℕ) → (length xs % 8 ≡ 0 → ⊥) → running (Ran·is.Refused Refusal·is.Storage) 0 w ≡ runs w xs limit
+unfolding runs
+run-storage w xs limit n = simp (ne-eqb _ _ n)
+
+pub run-starts : (w : Wait) (xs : List ℕ) (limit : ℕ) → length xs % 8 ≡ 0 → counting 0 (steps (ahead (limit - 0) xs) w) ≡ runs w xs limit
+unfolding runs
+run-starts w xs limit e =
+    let all : Running = steps (ahead limit xs) w in
+    let k : limit - 0 ≡ limit = omega arith in
+    rw (k, eq-eqb _ _ e) (ap (λ (k : ℕ). running (all .answer) k (all .wait)) (omega arith))
+
+-- the numbers from a place on
+pub turn-from : (s : List ℕ) (at : ℕ)
+    → record {
+      clock = getD s at 0;
+      «epoch_before» = getD s (at + 1) 0;
+      «epoch_after» = getD s (at + 2) 0;
+      kind = getD s (at + 3) 0;
+      duration = getD s (at + 4) 0;
+      pause = getD s (at + 5) 0;
+      «postponed_before» = getD s (at + 6) 0;
+      «postponed_after» = getD s (at + 7) 0;
+    } ≡ turnOf (drop at s)
+turn-from s at =
+    let z : at + 0 ≡ at = omega arith in
+    simp (getD-drop, z)
+
+-- ---- the loop: s is the buffer, at the place reached
+
+module _ (s : List ℕ) (limit at taken : ℕ) (w : Wait) where
+  -- the place reached has a turn, if it is not the end
+  pub a-turn : length (drop at s) % 8 ≡ 0 → at < length s → 8 ≤ length (drop at s)
+  a-turn d l = omega (arith, d, l, length-drop at s)
+
+  pub next-turn : length (drop at s) % 8 ≡ 0 → at < length s → taken < limit
+      → ahead (limit - taken) (drop at s) ≡ turnOf (drop at s) ∷ ahead (limit - (taken + 1)) (drop (at + 8) s)
+  next-turn d l m =
+      let k : limit - taken ≡ suc (limit - (taken + 1)) = omega (arith, m) in
+      rw k (one-ahead (limit - (taken + 1)) (drop at s) (a-turn d l) ∙ ap (λ (xs : List ℕ). turnOf (drop at s) ∷ ahead (limit - (taken + 1)) xs) (drop-drop 8 at s))
+
+  pub next-whole : length (drop at s) % 8 ≡ 0 → at < length s → length (drop (at + 8) s) % 8 ≡ 0
+  next-whole d l = omega (arith, d, l, length-drop at s, length-drop (at + 8) s)
+
+  pub next-less : at < length s → length (drop (at + 8) s) < length (drop at s)
+  next-less l = omega (arith, l, length-drop at s, length-drop (at + 8) s)
+
+  pub at-limit : limit ≤ taken → counting taken (steps (ahead (limit - taken) (drop at s)) w) ≡ running (standing w) taken w
+  at-limit l = stops-here taken _ w (limit-reached (drop at s) (limit - taken) (omega (arith, l)))
+
+  pub at-end : length s ≤ at → counting taken (steps (ahead (limit - taken) (drop at s)) w) ≡ running (standing w) taken w
+  at-end l = stops-here taken _ w (none-ahead (limit - taken) (drop at s) (omega (arith, l, length-drop at s)))
+
+  -- a turn v that was read there, in a run that comes to `all`
+  module _ (all : Running) (v : Observed) (d : length (drop at s) % 8 ≡ 0) (l : at < length s) (m : taken < limit)
+      (so : counting taken (steps (ahead (limit - taken) (drop at s)) w) ≡ all) (is : v ≡ turnOf (drop at s)) where
+    there : counting taken (steps (v ∷ ahead (limit - (taken + 1)) (drop (at + 8) s)) w) ≡ all
+    there = ap (λ (x : Observed). counting taken (steps (x ∷ ahead (limit - (taken + 1)) (drop (at + 8) s)) w)) is ∙ ap (λ (ts : List Observed). counting taken (steps ts w)) (sym (next-turn d l m)) ∙ so
+
+    pub run-refused : (r : Refusal) → Fails r ≡ tested Fails Passes w v → running (Ran·is.Refused r) taken w ≡ all
+    run-refused r e = sym (step-refused taken w v _ r e) ∙ there
+
+    pub run-ends : (e : Ending) → Passes ≡ tested Fails Passes w v → Ends e ≡ moves w v → running (Ran·is.Ends e) (taken + 1) endedWait ≡ all
+    run-ends e p q = sym (step-ends taken w v _ e p q) ∙ there
+
+    pub run-goes : (act : Act) (next : Wait) → Passes ≡ tested Fails Passes w v → Goes act next ≡ moves w v
+        → counting (taken + 1) (steps (ahead (limit - (taken + 1)) (drop (at + 8) s)) next) ≡ all
+    run-goes act next p q = sym (step-goes taken w v _ act next p q) ∙ there

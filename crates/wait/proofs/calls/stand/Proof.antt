@@ -1,0 +1,30 @@
+-- `wait::calls::stand` meets its contract: each `return` is what the tests on its way make of the definition. Assumes nothing.
+use mathlib.Core.Path.{_≡_, refl, sym, ap, _∙_}
+use native.Mathlib.Omega.{arith}
+use borrow.Author.Needs.{needs}
+use borrow.Author.Tests.{eq-eqb, ne-eqb, le-leb, lt-leb, lt-ltb, le-ltb, not-true, not-false}
+use Rattle.wait.specs.Run.{standing}
+use Rattle.wait.proofs.calls.stand.Statement.{statement}
+use Rattle.wait.proofs.calls.stand.Tie as tie
+
+has-ended-requires : tie.Need-has-ended-requires
+has-ended-requires c κs = search needs
+
+returns : tie.Need-returns
+unfolding standing
+returns c = simp (← c .before .has-ended .ensures, c .if1 .taken)
+
+wait-in-bounds-requires : tie.Need-wait-in-bounds-requires
+wait-in-bounds-requires c κs = search needs
+
+returns-2 : tie.Need-returns-2
+unfolding standing
+returns-2 c = simp (← c .before .before .before .has-ended .ensures, c .before .before .if1 .left, ← c .before .wait-in-bounds .ensures, not-true (c .before .wait-in-bounds .result) (c .if2 .taken))
+
+returns-3 : tie.Need-returns-3
+unfolding standing
+returns-3 c = simp (← c .before .before .before .has-ended .ensures, c .before .before .if1 .left, ← c .before .wait-in-bounds .ensures, not-false (c .before .wait-in-bounds .result) (c .if2 .left))
+
+pub stand-spec : {M : Type 1} → statement M
+stand-spec =
+    tie.close (tie.spec has-ended-requires returns wait-in-bounds-requires returns-2 returns-3)

@@ -1,0 +1,53 @@
+-- `wait::calls::turn` meets its contract: the tests, then the step. Assumes nothing.
+use mathlib.Core.Path.{_≡_, refl, sym, ap, _∙_}
+use borrow.Author.Needs.{needs}
+use Rattle.wait.specs.Keep.{after, tellTurn}
+use Rattle.wait.specs.declared.Move.the-variants.{Goes, Ends}
+use Rattle.wait.proofs.Walks.{turn-refused, turn-passed, passes-bounds}
+use Rattle.wait.proofs.calls.turn.Statement.{statement}
+use Rattle.wait.proofs.calls.turn.Tie as tie
+
+test-requires : tie.Need-test-requires
+test-requires c κs = search needs
+
+enum-known-verdict : tie.Need-enum-known-verdict
+enum-known-verdict c = search needs
+
+returns : tie.Need-returns
+returns c = ap tellTurn (turn-refused (c .before .before .before .before .args .wait) (c .before .before .before .before .args .turn) (c .before .verdict .given .0 .0) (sym (c .before .verdict .given .1) ∙ c .before .before .before .test .ensures))
+
+enum-told : tie.Need-enum-told
+enum-told c = search needs
+
+moves-requires : tie.Need-moves-requires
+moves-requires c κs = passes-bounds (c .before .before .before .args .wait) (c .before .before .before .args .turn) (sym (c .enum-told .given .1) ∙ c .before .before .test .ensures)
+
+enum-known-step : tie.Need-enum-known-step
+enum-known-step c = search needs
+
+enum-known-step-2 : tie.Need-enum-known-step-2
+enum-known-step-2 c = search needs
+
+ended-wait-requires : tie.Need-ended-wait-requires
+ended-wait-requires c κs = search needs
+
+returns-2 : tie.Need-returns-2
+returns-2 c = ap tellTurn (turn-passed (c .before .before .before .before .before .before .before .args .wait) (c .before .before .before .before .before .before .before .args .turn) (Goes (c .before .step .given .0 .0) (c .before .step .given .0 .1 .0)) (sym (c .before .before .before .before .enum-told .given .1) ∙ c .before .before .before .before .before .before .test .ensures) (sym (c .before .step .given .1) ∙ c .before .before .before .moves .ensures))
+
+returns-3 : tie.Need-returns-3
+returns-3 c = ap (after _) (c .ended-wait .ensures) ∙ ap tellTurn (turn-passed (c .before .before .before .before .before .before .before .before .args .wait) (c .before .before .before .before .before .before .before .before .args .turn) (Ends (c .before .before .step2 .given .0 .0)) (sym (c .before .before .before .before .before .enum-told .given .1) ∙ c .before .before .before .before .before .before .before .test .ensures) (sym (c .before .before .step2 .given .1) ∙ c .before .before .before .before .moves .ensures))
+
+pub turn-spec : {M : Type 1} → statement M
+turn-spec =
+    tie.close
+    (tie.spec
+    test-requires
+    enum-known-verdict
+    returns
+    enum-told
+    moves-requires
+    enum-known-step
+    enum-known-step-2
+    ended-wait-requires
+    returns-2
+    returns-3)

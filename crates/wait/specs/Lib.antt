@@ -1,0 +1,6 @@
+-- "Waiting answers": one turn, a run of turns, a dropped wait.
+pub mod Answers
+pub mod Turns
+pub mod Keep
+pub mod Run
+pub mod Locked

@@ -1,0 +1,97 @@
+-- "Each run of turns has a limit and reports how many turns it took, which equals the steps of these rules." Definitions only.
+use Prim.Native.Nat.{ℕ, zero, suc, _+_, _/_, _%_}
+use mathlib.Core.Bool.{Bool, true, false, not}
+use mathlib.Core.List.{List, [], _∷_}
+use lib.Dec.{eqb}
+use lib.ListN.{length, take, drop, getD}
+use Rattle.error.specs.Choice.{if_then_else_}
+use Rattle.error.specs.Told.{Told}
+use Rattle.error.specs.declared.Refusal.the-variants as Refusal·is
+use Rattle.wait.specs.declared.Wait.{Wait}
+use Rattle.wait.specs.declared.Observed.{Observed}
+use Rattle.wait.specs.declared.Move.{Move}
+use Rattle.wait.specs.declared.Move.the-variants.{Goes, Ends}
+use Rattle.wait.specs.declared.Ran.{Ran}
+use Rattle.wait.specs.declared.Ran.the-variants as Ran·is
+use Rattle.wait.specs.declared.Running.{Running}
+use Rattle.wait.specs.declared.Dropped.{Dropped}
+use Rattle.wait.specs.declared.Dropped.the-variants as Dropped·is
+use Rattle.wait.specs.declared.Dropping.{Dropping}
+use Rattle.wait.specs.Answers.{ranTold, droppedTold}
+use Rattle.wait.specs.Turns.{endedWait, isHolding, hasEnded, waitInBounds}
+use Rattle.wait.specs.Keep.{After, after, moves, tested}
+
+-- what a run comes to: its answer, the turns that it took, and the wait reached
+abbrev pub running : Ran → ℕ → Wait → Running
+running answer taken w = record { answer = answer; taken = taken; wait = w }
+
+-- one step more
+abbrev pub counted : Running → Running
+counted r = running (r .answer) (suc (r .taken)) (r .wait)
+
+-- ---- the steps. A refused turn isn't counted.
+
+-- no turn is left, or the limit is reached: 11 and 1 for the wait alone, else 10
+unfoldable pub standing : Wait → Ran
+standing w =
+    if hasEnded w then Ran·is.Refused Refusal·is.Turn
+    else if not (waitInBounds w) then Ran·is.Refused Refusal·is.Time
+    else Ran·is.Unfinished
+
+abbrev pub onward : Move → (Wait → Running) → Running
+onward (Goes act w) more = counted (more w)
+onward (Ends e) more = running (Ran·is.Ends e) 1 endedWait
+
+unfoldable pub steps : List Observed → Wait → Running
+steps [] w = running (standing w) 0 w
+steps (t ∷ ts) w = tested (λ r. running (Ran·is.Refused r) 0 w) (onward (moves w t) (λ next. steps ts next)) w t
+
+-- ---- the entry point: "turns not a multiple of 8" is 3; then as many turns as the limit says
+
+-- "A turn reads eight 64-bit numbers: clock in nanoseconds, resume epoch before and after, reply kind, reply duration, pause, total
+-- postponement before and after."
+abbrev pub turnOf : List ℕ → Observed
+turnOf xs =
+    record {
+      clock = getD xs 0 0;
+      «epoch_before» = getD xs 1 0;
+      «epoch_after» = getD xs 2 0;
+      kind = getD xs 3 0;
+      duration = getD xs 4 0;
+      pause = getD xs 5 0;
+      «postponed_before» = getD xs 6 0;
+      «postponed_after» = getD xs 7 0;
+    }
+
+-- the first k turns
+unfoldable pub turnsOf : ℕ → List ℕ → List Observed
+turnsOf zero xs = []
+turnsOf (suc k) xs = turnOf xs ∷ turnsOf k (drop 8 xs)
+
+unfoldable pub runs : Wait → List ℕ → ℕ → Running
+runs w xs limit =
+    if eqb (length xs % 8) 0 then steps (take limit (turnsOf (length xs / 8) xs)) w
+    else running (Ran·is.Refused Refusal·is.Storage) 0 w
+
+-- "turns taken, wait reached" beside what was told
+pub record Report : Type 0 where
+  pub told : Told
+  pub taken : ℕ
+  pub wait : Wait
+
+abbrev pub tellRun : Running → Report
+tellRun r = record { told = ranTold (r .answer); taken = r .taken; wait = r .wait }
+
+-- ---- "a dropped wait gives back a held grant"
+
+abbrev pub dropping : Dropped → Wait → Dropping
+dropping answer w = record { answer = answer; wait = w }
+
+unfoldable pub dropped : Wait → Dropping
+dropped w =
+    if hasEnded w then dropping (Dropped·is.Refused Refusal·is.Turn) w
+    else if not (waitInBounds w) then dropping (Dropped·is.Refused Refusal·is.Time) w
+    else dropping (Dropped·is.GiveBack (if isHolding w then 1 else 0)) endedWait
+
+abbrev pub tellDrop : Dropping → After
+tellDrop r = after (droppedTold (r .answer)) (r .wait)

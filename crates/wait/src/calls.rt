@@ -1,0 +1,209 @@
+// The calls on a wait: start, one turn, a run of turns, drop. Each tests what it is handed.
+ghost use mathlib.Core.Path.{_≡_};
+ghost use lib.ListN.{length, drop};
+ghost use Prim.Native.Nat.{_≤_, _+_};
+ghost use Rattle.wait.specs.Answers.{startedTold};
+ghost use Rattle.wait.specs.Keep.{turned, tellTurn};
+ghost use Rattle.wait.specs.Run.{runs, tellRun, standing, turnOf, dropped, tellDrop};
+ghost use Rattle.wait.specs.Turns as Turns;
+ghost use Rattle.wait.specs.Turns.{started, endedWait};
+use crate::Dropped;
+use crate::Dropping;
+use crate::Move;
+use crate::Observed;
+use crate::Ran;
+use crate::Running;
+use crate::Started;
+use crate::Tested;
+use crate::Turned;
+use crate::Turning;
+use crate::Wait;
+use crate::bounds::has_ended;
+use crate::bounds::test;
+use crate::bounds::wait_in_bounds;
+use crate::keep::moves;
+use error::Refusal;
+
+// A wait that has ended.
+fn ended_wait() -> Wait
+    ensures { λ r. ⌜ r ≡ endedWait ⌝ }
+{
+    Wait {
+        phase: 0,
+        limited: 0,
+        deadline: 0,
+        seen: 0,
+        due: 0,
+        zeros: 0,
+    }
+}
+
+// A wait that looks, and has seen nothing.
+fn looking(limited: u64, deadline: u64) -> Wait
+    ensures { λ r. ⌜ r ≡ Turns.looking limited deadline ⌝ }
+{
+    Wait {
+        phase: 1,
+        limited,
+        deadline,
+        seen: 0,
+        due: 0,
+        zeros: 0,
+    }
+}
+
+// A wait from this clock on, with a timeout or without.
+// Ruled out: a deadline that wraps; one that leaves a time over its bound to the first turn.
+pub fn start(clock: u64, limited: bool, timeout: u64) -> Started
+    ensures { λ r. ⌜ startedTold r ≡ started clock limited timeout ⌝ }
+{
+    if clock > 0x4000_0000_0000_0000 {
+        return Started::Refused(Refusal::Time);
+    }
+    if timeout > 0x4000_0000_0000_0000 {
+        return Started::Refused(Refusal::Time);
+    }
+    if !limited {
+        return Started::Made(looking(0, 0));
+    }
+    Started::Made(looking(1, clock + timeout))
+}
+
+// One turn of a wait. A refused one leaves the wait; one that ends it leaves an ended wait.
+// Ruled out: a deadline before the first look; a give-back on a plain retry.
+pub fn turn(wait: Wait, turn: Observed) -> Turning
+    ensures { λ r. ⌜ tellTurn r ≡ tellTurn (turned wait turn) ⌝ }
+{
+    let verdict = test(wait, turn);
+    if let Tested::Fails(r) = verdict {
+        return Turning {
+            answer: Turned::Refused(r),
+            wait,
+        };
+    }
+    let step = moves(wait, turn);
+    match step {
+        Move::Goes(act, next) => Turning {
+            answer: Turned::Next(act),
+            wait: next,
+        },
+        Move::Ends(ending) => Turning {
+            answer: Turned::Ends(ending),
+            wait: ended_wait(),
+        },
+    }
+}
+
+// The eight numbers from `at` on.
+fn turn_at(turns: &[u64], at: usize) -> Observed
+    requires { ⌜ at + 8 ≤ length (now turns) ⌝ }
+    ensures { λ r. ⌜ r ≡ turnOf (drop at (now (turns .entry))) ⌝ }
+{
+    Observed {
+        clock: turns[at],
+        epoch_before: turns[at + 1],
+        epoch_after: turns[at + 2],
+        kind: turns[at + 3],
+        duration: turns[at + 4],
+        pause: turns[at + 5],
+        postponed_before: turns[at + 6],
+        postponed_after: turns[at + 7],
+    }
+}
+
+// What a run is told that has no turn to take.
+fn stand(wait: Wait) -> Ran
+    ensures { λ r. ⌜ r ≡ standing wait ⌝ }
+{
+    if has_ended(wait) {
+        return Ran::Refused(Refusal::Turn);
+    }
+    if !wait_in_bounds(wait) {
+        return Ran::Refused(Refusal::Time);
+    }
+    Ran::Unfinished
+}
+
+// Takes turns until the wait ends, one is refused, or the limit or the turns are used up. A turn past the limit is not read.
+// Ruled out: a count that isn't that of the rules; a run that reads past the end.
+pub fn run(wait: Wait, turns: &[u64], limit: u64) -> Running
+    ensures { λ r. ⌜ tellRun r ≡ tellRun (runs wait (now (turns .entry)) limit) ⌝ }
+{
+    if turns.len() % 8 != 0 {
+        return Running {
+            answer: Ran::Refused(Refusal::Storage),
+            taken: 0,
+            wait,
+        };
+    }
+    let mut at: usize = 0;
+    let mut taken: u64 = 0;
+    let mut reached = wait;
+    while at < turns.len() {
+        if taken >= limit {
+            return Running {
+                answer: stand(reached),
+                taken,
+                wait: reached,
+            };
+        }
+        let turn = turn_at(turns, at);
+        let verdict = test(reached, turn);
+        if let Tested::Fails(r) = verdict {
+            return Running {
+                answer: Ran::Refused(r),
+                taken,
+                wait: reached,
+            };
+        }
+        let step = moves(reached, turn);
+        match step {
+            Move::Goes(_act, next) => {
+                reached = next;
+            }
+            Move::Ends(ending) => {
+                return Running {
+                    answer: Ran::Ends(ending),
+                    taken: taken + 1,
+                    wait: ended_wait(),
+                };
+            }
+        }
+        at += 8;
+        taken += 1;
+    }
+    Running {
+        answer: stand(reached),
+        taken,
+        wait: reached,
+    }
+}
+
+// Ends a wait before its time (`Drop` of the Rust's `Release`): a held grant is to be given back.
+// Ruled out: one that keeps a held grant; one that gives back for a wait that holds none.
+pub fn drop_wait(wait: Wait) -> Dropping
+    ensures { λ r. ⌜ tellDrop r ≡ tellDrop (dropped wait) ⌝ }
+{
+    if has_ended(wait) {
+        return Dropping {
+            answer: Dropped::Refused(Refusal::Turn),
+            wait,
+        };
+    }
+    if !wait_in_bounds(wait) {
+        return Dropping {
+            answer: Dropped::Refused(Refusal::Time),
+            wait,
+        };
+    }
+    if wait.phase == 2 {
+        return Dropping {
+            answer: Dropped::GiveBack(1),
+            wait: ended_wait(),
+        };
+    }
+    Dropping {
+        answer: Dropped::GiveBack(0),
+        wait: ended_wait(),
+    }
+}

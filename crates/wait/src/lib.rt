@@ -1,0 +1,110 @@
+// A wait for the inner limiter (wait.rs of the Rust): one turn on eight numbers, and a run of turns. Knows nothing of breakers.
+// Times are nanoseconds. The host reads its clock, asks the limiter and sleeps; a turn says what it is to do.
+mod bounds;
+mod calls;
+mod keep;
+mod retries;
+
+pub use calls::drop_wait;
+pub use calls::run;
+pub use calls::start;
+pub use calls::turn;
+use error::Refusal;
+
+// A wait between two turns. Made of any numbers: each call tests them.
+#[repr(C)]
+pub struct Wait {
+    // 1 looking, 2 holding a grant, any other number: ended
+    pub phase: u64,
+    // 0: no deadline
+    pub limited: u64,
+    pub deadline: u64,
+    // the greatest postponement since the look
+    pub seen: u64,
+    // when the grant may be used
+    pub due: u64,
+    // retries of 0 in a row, at most 5
+    pub zeros: u64,
+}
+
+// What the host read for a turn; of each pair the first was read before the limiter was asked.
+#[repr(C)]
+pub struct Observed {
+    pub clock: u64,
+    pub epoch_before: u64,
+    pub epoch_after: u64,
+    // 1 granted, 2 retry, 3 never
+    pub kind: u64,
+    pub duration: u64,
+    pub pause: u64,
+    pub postponed_before: u64,
+    pub postponed_after: u64,
+}
+
+// What the host is to do before the next turn.
+pub enum Act {
+    Sleep(u64),
+    // at most so long, unless resumed past this epoch
+    SleepUnlessResumed(u64, u64),
+    Yield,
+    LookAgain,
+}
+
+// How a wait ends. A deadline says how much to give back, 0 or 1.
+pub enum Ending {
+    Done,
+    Deadline(u64),
+    Never,
+}
+
+// What a turn that is not refused comes to: something to do and the wait after it, or the end.
+pub enum Move {
+    Goes(Act, Wait),
+    Ends(Ending),
+}
+
+// Whether a turn may be taken, or why not.
+pub enum Tested {
+    Passes,
+    Fails(Refusal),
+}
+
+pub enum Turned {
+    Next(Act),
+    Ends(Ending),
+    Refused(Refusal),
+}
+
+// What a run of turns came to. Unfinished: its limit or its turns are used up.
+pub enum Ran {
+    Ends(Ending),
+    Unfinished,
+    Refused(Refusal),
+}
+
+pub enum Started {
+    Made(Wait),
+    Refused(Refusal),
+}
+
+// How much a dropped wait gives back, 0 or 1.
+pub enum Dropped {
+    GiveBack(u64),
+    Refused(Refusal),
+}
+
+pub struct Turning {
+    pub answer: Turned,
+    pub wait: Wait,
+}
+
+pub struct Running {
+    pub answer: Ran,
+    pub taken: u64,
+    pub wait: Wait,
+}
+
+pub struct Dropping {
+    pub answer: Dropped,
+    pub wait: Wait,
+}
