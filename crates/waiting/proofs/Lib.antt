@@ -1,0 +1,2 @@
+-- Laws of waits before a breaker.
+pub mod Steps

@@ -1,0 +1,4 @@
+-- A wait before a breaker.
+pub mod Answers
+pub mod Rules
+pub mod Calls
