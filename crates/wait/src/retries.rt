@@ -1,6 +1,8 @@
 // What remains to a deadline, and the retries: what every manner of waiting shares.
 ghost use mathlib.Core.Path.{_≡_};
 ghost use Prim.Native.Nat.{_+_, min};
+ghost use Rattle.wait.specs.declared.Ending.the-variants.{Deadline};
+ghost use Rattle.wait.specs.declared.Move.the-variants.{Ends};
 ghost use Rattle.wait.specs.Locked.{budget};
 ghost use Rattle.wait.specs.Turns as Turns;
 ghost use Rattle.wait.specs.Turns.{naps, retries, retriesZero, withZeros};
@@ -66,6 +68,13 @@ fn one_more(zeros: u64) -> u64
     zeros + 1
 }
 
+// A retry holds nothing, so there is nothing to give back.
+fn too_late() -> Move
+    ensures { λ r. ⌜ r ≡ Ends (Deadline 0) ⌝ }
+{
+    Move::Ends(Ending::Deadline(0))
+}
+
 fn retry_zero(wait: Wait, turn: Observed) -> Move
     ensures { λ r. ⌜ r ≡ retriesZero wait turn ⌝ }
 {
@@ -74,7 +83,7 @@ fn retry_zero(wait: Wait, turn: Observed) -> Move
     }
     let left = remaining(wait, turn.clock);
     if left == 0 {
-        return Move::Ends(Ending::Deadline(0));
+        return too_late();
     }
     if left < 1_000_000 {
         return nap(left, wait, turn);
@@ -86,7 +95,7 @@ pub(crate) fn retry(wait: Wait, turn: Observed) -> Move
     ensures { λ r. ⌜ r ≡ retries wait turn ⌝ }
 {
     if turn.duration > remaining(wait, turn.clock) {
-        return Move::Ends(Ending::Deadline(0));
+        return too_late();
     }
     if turn.duration == 0 {
         return retry_zero(with_zeros(one_more(wait.zeros), wait), turn);

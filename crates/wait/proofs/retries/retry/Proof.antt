@@ -10,8 +10,11 @@ use Rattle.wait.proofs.retries.retry.Tie as tie
 remaining-requires : tie.Need-remaining-requires
 remaining-requires c κs = search needs
 
+too-late-requires : tie.Need-too-late-requires
+too-late-requires c κs = search needs
+
 returns : tie.Need-returns
-returns c = retry-over (c .before .before .before .args .wait) (c .before .before .before .args .turn) (c .before .before .remaining .result) (omega arith) (c .before .before .remaining .ensures) (c .if1 .taken)
+returns c = c .too-late .ensures ∙ retry-over (c .before .before .before .before .args .wait) (c .before .before .before .before .args .turn) (c .before .before .before .remaining .result) (omega arith) (c .before .before .before .remaining .ensures) (c .before .if1 .taken)
 
 one-more-requires : tie.Need-one-more-requires
 one-more-requires c κs = search needs
@@ -39,6 +42,7 @@ retry-spec =
     tie.close
     (tie.spec
     remaining-requires
+    too-late-requires
     returns
     one-more-requires
     with-zeros-requires

@@ -14,8 +14,11 @@ returns c = zero-yields _ _ (c .if1 .taken)
 remaining-requires : tie.Need-remaining-requires
 remaining-requires c κs = search needs
 
+too-late-requires : tie.Need-too-late-requires
+too-late-requires c κs = search needs
+
 returns-2 : tie.Need-returns-2
-returns-2 c = zero-over _ _ (c .before .before .if1 .left) (sym (c .before .remaining .ensures) ∙ c .if2 .taken)
+returns-2 c = c .too-late .ensures ∙ zero-over _ _ (c .before .before .before .if1 .left) (sym (c .before .before .remaining .ensures) ∙ c .before .if2 .taken)
 
 nap-requires : tie.Need-nap-requires
 nap-requires c κs = search needs
@@ -32,4 +35,12 @@ returns-4 c = c .nap2 .ensures ∙ zero-long _ _ _ (c .before .before .before .b
 pub retry-zero-spec : {M : Type 1} → statement M
 retry-zero-spec =
     tie.close
-    (tie.spec returns remaining-requires returns-2 nap-requires returns-3 nap-requires-2 returns-4)
+    (tie.spec
+    returns
+    remaining-requires
+    too-late-requires
+    returns-2
+    nap-requires
+    returns-3
+    nap-requires-2
+    returns-4)
