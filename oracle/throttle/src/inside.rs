@@ -1,6 +1,8 @@
 //! The probe. It stands as a child of circuit.rs's module, so it reaches what is
 //! private there: it calls, reads and sets, and decides nothing.
 
+mod waiting;
+
 use core::time::Duration;
 use std::collections::VecDeque;
 

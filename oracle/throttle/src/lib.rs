@@ -6,6 +6,7 @@ pub mod plain;
 mod rt;
 pub mod scope;
 pub mod scripted;
+pub mod turns;
 
 pub use circuit::Trip;
 pub use circuit::inside::Subject;

@@ -5,6 +5,7 @@ use std::time::Duration;
 
 use crate::decision::Decision;
 use crate::limiter::Limiter;
+use crate::rt;
 
 /// The replies, and the questions since they were last forgotten.
 #[derive(Debug)]
@@ -97,5 +98,13 @@ impl Limiter for Scripted {
 
     fn charge(&self, cost: u32) -> u32 {
         self.asked(Asked::Charge(cost)).charge
+    }
+
+    fn paused_for(&self) -> Duration {
+        rt::paused()
+    }
+
+    fn postponed(&self) -> Duration {
+        rt::postponed()
     }
 }
