@@ -1,7 +1,7 @@
 //! A fixed sample of calls with the answers of the unchanged Rust.
 
 mod coverage;
-mod draw;
+pub mod draw;
 pub mod lines;
 pub mod prng;
 

@@ -24,6 +24,11 @@ pub fn start(out: &mut impl Write, state: &State) -> io::Result<()> {
 
 /// A call with its answer, what it left, and how the list changed.
 pub fn step(out: &mut impl Write, step: &Step) -> io::Result<()> {
+    step_as(out, 2, step)
+}
+
+/// The same with another first number.
+pub fn step_as(out: &mut impl Write, kind: u64, step: &Step) -> io::Result<()> {
     let (op, args) = step.call.numbers();
     let (before, after) = (&step.before.items, &step.after.items);
     let popped = popped(before, after);
@@ -37,7 +42,7 @@ pub fn step(out: &mut impl Write, step: &Step) -> io::Result<()> {
         &[popped as u64, pushed.len() as u64],
         pushed,
     ];
-    line(out, 2, &parts)
+    line(out, kind, &parts)
 }
 
 /// How few items must go from the front so that the list after begins with the
@@ -48,7 +53,7 @@ pub fn popped(before: &[u64], after: &[u64]) -> usize {
         .unwrap_or(before.len())
 }
 
-fn line(out: &mut impl Write, kind: u64, parts: &[&[u64]]) -> io::Result<()> {
+pub fn line(out: &mut impl Write, kind: u64, parts: &[&[u64]]) -> io::Result<()> {
     write!(out, "{kind}")?;
     for number in parts.iter().copied().flatten() {
         write!(out, " {number}")?;

@@ -32,11 +32,16 @@ impl Player {
     pub fn heard(&mut self, call: &Call, answer: &Answer) {
         let ticket = matches!(call, Call::Admit { .. } | Call::TryAdmit { .. });
         if ticket && answer.number == 0 {
-            self.granted.push(Ticket {
+            self.keep(Ticket {
                 generation: answer.values[0],
                 probe: answer.values[1] == 1,
             });
         }
+    }
+
+    /// Keeps a ticket, to end it by a later call.
+    pub fn keep(&mut self, ticket: Ticket) {
+        self.granted.push(ticket);
     }
 
     /// The next reading: often a little later, often at an edge, at times back.
