@@ -22,7 +22,10 @@ fn link(path: &Path) {
         Ok(archive) => {
             println!("cargo::rerun-if-changed={}", archive.display());
             println!("cargo::rustc-cfg=archive");
-            println!("cargo::rustc-link-arg={}", archive.display());
+            let (folder, name) = (archive.parent(), archive.file_name());
+            let (folder, name) = folder.zip(name).expect("a file in a folder");
+            println!("cargo::rustc-link-search=native={}", folder.display());
+            println!("cargo::rustc-link-lib=static:+verbatim={}", name.display());
         }
         Err(error) => println!("cargo::error={VARIABLE}: {}: {error}", path.display()),
     }

@@ -17,6 +17,9 @@ struct Temper {
     pauses: u64,
     resumes: u64,
     drops: u64,
+    nevers: u64,
+    /// How often a time is aimed at what remains.
+    edges: u64,
 }
 
 /// Draws one wait.
@@ -39,6 +42,8 @@ impl Hand {
             pauses: prng.pick(&[0, 10, 30, 60]),
             resumes: prng.pick(&[0, 5, 30, 60]),
             drops: prng.pick(&[0, 0, 2, 10]),
+            nevers: prng.pick(&[0, 1, 5]),
+            edges: prng.pick(&[3, 15, 40]),
         };
         Self {
             temper,
@@ -146,15 +151,15 @@ impl Hand {
         if self.track.due.is_some() {
             return (prng.pick(&[GRANTED, RETRY, NEVER]), self.span(prng));
         }
-        match prng.below(100) {
-            0..=2 => (NEVER, self.amount(prng)),
-            share if share < 3 + self.temper.grants => match prng.percent(40) {
-                true => (GRANTED, 0),
-                false => (GRANTED, self.span(prng)),
-            },
-            _ if prng.percent(self.temper.zeros) => (RETRY, 0),
-            _ => (RETRY, self.span(prng)),
-        }
+        let (kind, zeros) = if prng.percent(self.temper.nevers) {
+            (NEVER, 50)
+        } else if prng.percent(self.temper.grants) {
+            (GRANTED, 40)
+        } else {
+            (RETRY, self.temper.zeros)
+        };
+        let zero = prng.percent(zeros);
+        (kind, if zero { 0 } else { self.span(prng) })
     }
 
     fn pause(&self, prng: &mut Prng) -> u64 {
@@ -168,8 +173,8 @@ impl Hand {
     fn span(&self, prng: &mut Prng) -> u64 {
         let remaining = self.track.remaining();
         let span = match remaining {
-            Some(remaining) if prng.percent(35) => prng.near(remaining),
-            Some(remaining) if remaining > 0 && prng.percent(50) => prng.below(remaining),
+            Some(remaining) if prng.percent(self.temper.edges) => prng.near(remaining),
+            Some(remaining) if remaining > 0 && prng.percent(60) => prng.below(remaining),
             _ => self.amount(prng),
         };
         span.min(LONGEST)

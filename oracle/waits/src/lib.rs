@@ -1,5 +1,7 @@
 //! Random waits before a breaker, played on the unchanged Rust.
 
+#[cfg(archive)]
+pub mod archive;
 pub mod compare;
 mod draw;
 pub mod event;

@@ -42,6 +42,19 @@ fn sample(seed: u64) -> io::Result<ExitCode> {
     }
 }
 
-fn compare(_seed: u64, _count: u64) -> io::Result<ExitCode> {
-    Err(io::Error::other("no archive"))
+/// What was compared, on standard output.
+#[cfg(archive)]
+fn compare(seed: u64, count: u64) -> io::Result<ExitCode> {
+    let mut archive = waits::archive::Archive::default();
+    let outcome = waits::compare::compare(seed, count, &mut archive);
+    let (runs, turns) = archive.counts;
+    print!("seed: {seed}\n{outcome}");
+    println!("runs: {runs}, of {turns} turns");
+    Ok(ExitCode::from(u8::from(outcome.differing.is_some())))
+}
+
+#[cfg(not(archive))]
+fn compare(_: u64, _: u64) -> io::Result<ExitCode> {
+    let what = "built without an archive: name one in PUDVIREZ_ARCHIVE and build again";
+    Err(io::Error::other(what))
 }

@@ -32,7 +32,7 @@ const KINDS: [&str; 13] = [
 
 const DROP: usize = KINDS.len() - 1;
 
-const EDGES: [&str; 12] = [
+const EDGES: [&str; 13] = [
     "waits without a limit",
     "clocks that go back",
     "times of 2^62",
@@ -45,6 +45,7 @@ const EDGES: [&str; 12] = [
     "done in another generation",
     "trials freed by an end or a drop",
     "transitions by other calls while it waited",
+    "tenth turns",
 ];
 
 #[derive(Default)]
@@ -55,6 +56,7 @@ pub struct Tally {
     pub calls: u64,
     /// The wait under way, or the last one.
     track: Track,
+    length: u64,
     waiting: bool,
 }
 
@@ -96,6 +98,7 @@ impl Tally {
 
     fn start(&mut self, start: &Start, before: &State) -> usize {
         self.track = Track::new(start);
+        self.length = 0;
         self.edges[0] += u64::from(!start.limited);
         match before.state {
             CLOSED => 0,
@@ -125,6 +128,8 @@ impl Tally {
         self.edges[1] += u64::from(back);
         self.edges[2] += u64::from(times.contains(&LONGEST));
         self.edges[3] += u64::from(self.track.row == 8);
+        self.length += 1;
+        self.edges[12] += u64::from(self.length == 10);
     }
 
     fn note_answer(&mut self, turn: &Turn, event: &Event) {
