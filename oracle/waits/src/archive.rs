@@ -8,7 +8,7 @@ use throttle::plain::{Answer, State};
 use throttle::turns::Handed;
 
 use crate::compare::{Difference, Rival};
-use crate::event::{Played, Step};
+use crate::event::{Event, Played, Step};
 use ffi::{Pending, Waited};
 use side::{Side, plain_waited};
 
@@ -185,7 +185,7 @@ impl Archive {
 }
 
 fn turns_from(played: &Played, at: usize) -> Vec<Handed> {
-    let turn = |event: &crate::event::Event| match event.step {
+    let turn = |event: &Event| match event.step {
         Step::Turn(handed) => Some(handed),
         _ => None,
     };

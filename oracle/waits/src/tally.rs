@@ -48,6 +48,9 @@ const EDGES: [&str; 13] = [
     "tenth turns",
 ];
 
+/// How often a sample must hold each of all these.
+const LEAST: u64 = 10;
+
 #[derive(Default)]
 pub struct Tally {
     cells: [[u64; TOLD.len()]; KINDS.len()],
@@ -166,8 +169,8 @@ impl Tally {
         let told = TOLD.iter().enumerate().map(|(i, name)| (name, sum(i)));
         let edges = EDGES.iter().zip(self.edges);
         (kinds.chain(told).chain(edges))
-            .filter(|&(_, count): &(_, u64)| count < 20)
-            .map(|(what, count)| format!("{what}: {count} of 20"))
+            .filter(|&(_, count): &(_, u64)| count < LEAST)
+            .map(|(what, count)| format!("{what}: {count} of {LEAST}"))
             .collect()
     }
 }

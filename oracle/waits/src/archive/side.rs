@@ -7,6 +7,9 @@ use throttle::turns::{Handed, Start};
 
 use super::ffi::{self, Breaker, Config, Pending, Setting, Shared, Told, Turn, Waited};
 
+/// The places past a list, to be compared at once.
+static ZEROS: [u64; PLACES] = [0; PLACES];
+
 pub struct Side {
     breaker: Breaker,
     list: Box<[u64; PLACES]>,
@@ -44,7 +47,7 @@ impl Side {
             config: self::config(config),
             shared: shared(state),
         };
-        self.breaker == breaker && items == state.items && rest.iter().all(|&place| place == 0)
+        self.breaker == breaker && items == state.items && *rest == ZEROS[..rest.len()]
     }
 
     /// What it holds, to be read by people.
