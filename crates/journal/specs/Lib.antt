@@ -1,0 +1,2 @@
+-- The archive journal: a whole journal's answer.
+pub mod Replay
