@@ -2,12 +2,12 @@
 use mathlib.Core.Path.{_≡_, refl, sym, ap, _∙_}
 use mathlib.Core.Bool.{Bool, true, false, not, _&&_}
 use mathlib.Core.List.{List, [], _∷_}
-use Prim.Native.Nat.{ℕ, _*_, min, max}
+use Prim.Native.Nat.{ℕ, _*_, _%_, _^_, _<_, min, max}
 use native.Mathlib.Omega.{arith}
 use lib.IntN.{pos}
 use lib.Dec.{T, eqb}
 use lib.ListN.{getD}
-use borrow.Author.Tests.{eq-eqb}
+use borrow.Author.Tests.{eq-eqb, lt-ltb}
 use lib.Ieee.{Float, nan, inf, fin, up, down, lt, eq, ne, isNan}
 use Rattle.error.specs.Choice.{if_then_else_}
 use Rattle.error.specs.Told.{Told, tell, refused}
@@ -19,7 +19,7 @@ use Rattle.trip.specs.declared.Trip.{Trip}
 use Rattle.trip.specs.declared.Trip.the-variants.{Consecutive, Ratio, Windowed}
 use Rattle.trip.specs.declared.Built.the-variants.{Made, Refused as NotMade}
 use Rattle.trip.specs.declared.CircuitBreakerBuilder.{CircuitBreakerBuilder}
-use Rattle.trip.specs.Settings.{isTime, millis, millisOf, zeroRatio, oneRatio, clampedRatio, normalisedTrip, periodIsTime, overLimit, configFor, configValues, builtTold, settingsOf, builtOf}
+use Rattle.trip.specs.Settings.{isTime, millis, ofMillis, millisOf, zeroRatio, oneRatio, clampedRatio, normalisedTrip, periodIsTime, overLimit, configFor, configValues, builtTold, settingsOf, builtOf}
 
 -- ---- durations
 pub millis-refused : (d : Duration) (r : Refusal) → refused r ≡ millisOf d → (isTime d ≡ false) × (refused r ≡ refused Time)
@@ -35,6 +35,13 @@ millis-whole d ms e = go (isTime d) refl e
     go : (b : Bool) → isTime d ≡ b → tell 0 (ms ∷ []) ≡ (if b then tell 0 (millis d ∷ []) else refused Time) → (isTime d ≡ true) × (ms ≡ millis d)
     go true i e = (i, ap (λ (t : Told). getD (t .values) 0 0) e)
     go false i e = no-refusal Time (ms ∷ []) e
+
+-- milliseconds made a duration are a time, and come back
+pub millis-of : (ms : ℕ) → ms < 2 ^ 64 → millis (ofMillis ms) ≡ ms
+millis-of ms h = omega arith
+
+pub of-millis-time : (ms : ℕ) → isTime (ofMillis ms) ≡ true
+of-millis-time ms = lt-ltb (ms % 1000 * 1000000) 1000000000 (omega arith)
 
 -- ---- ratios
 -- a float differs from itself exactly where it is a NaN

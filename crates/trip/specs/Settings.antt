@@ -1,5 +1,5 @@
 -- "Policies and settings": durations, normalising, and the settings of a record.
-use Prim.Native.Nat.{ℕ, _+_, _-_, _*_, _/_, _^_, min, max}
+use Prim.Native.Nat.{ℕ, _+_, _-_, _*_, _/_, _%_, _^_, min, max}
 use mathlib.Core.Bool.{Bool, true, false, not, _&&_}
 use mathlib.Core.List.{List, [], _∷_}
 use lib.IntN.{pos}
@@ -31,6 +31,10 @@ isTime d = ltb (d .nanos) 1000000000
 -- "milliseconds drop the rest and cap at 2^64 − 1"
 abbrev pub millis : Duration → ℕ
 millis d = min (d .secs * 1000 + d .nanos / 1000000) (2 ^ 64 - 1)
+
+-- a duration of so many milliseconds
+abbrev pub ofMillis : ℕ → Duration
+ofMillis ms = record { secs = ms / 1000; nanos = ms % 1000 * 1000000 }
 
 abbrev pub millisOf : Duration → Told
 millisOf d = if isTime d then tell 0 (millis d ∷ []) else refused Time

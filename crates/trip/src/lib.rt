@@ -3,7 +3,7 @@ ghost use mathlib.Core.Path.{_≡_};
 ghost use Prim.Native.Nat.{min, max};
 ghost use lib.Dec.{leb};
 ghost use lib.Ieee.{binary64, ofBits};
-ghost use Rattle.trip.specs.Settings.{millisTold, millisOf, clampedRatio, normalisedRatio, normalisedTrip, builtTold, settingsOf, builtOf, defaultBuilder, withTrip, withCooldown, withHalfOpen};
+ghost use Rattle.trip.specs.Settings.{millisTold, millisOf, ofMillis, clampedRatio, normalisedRatio, normalisedTrip, builtTold, settingsOf, builtOf, defaultBuilder, withTrip, withCooldown, withHalfOpen};
 ghost use Rattle.trip.specs.Policy.{ratioReached, boardFigure};
 use error::Refusal;
 
@@ -35,6 +35,17 @@ impl Duration {
             return Millis::Whole(0xffff_ffff_ffff_ffff);
         }
         Millis::Whole(secs * 1000 + rest)
+    }
+
+    // The duration of so many milliseconds.
+    // Ruled out: one that drops what is below a second; milliseconds taken for nanoseconds.
+    pub fn from_millis(ms: u64) -> Duration
+        ensures { λ r. ⌜ r ≡ ofMillis ms ⌝ }
+    {
+        Duration {
+            secs: ms / 1000,
+            nanos: (ms % 1000 * 1_000_000) as u32,
+        }
     }
 }
 
