@@ -14,7 +14,8 @@ use Rattle.circuit.specs.Record.{Settings, State, settings, state, store
 use Rattle.circuit.specs.Rules.{Outcome, outcome}
 use Rattle.circuit.specs.Calls.{After, after, guarded, kept, onSound, asked}
 use Rattle.circuit.specs.Locked.{Holds}
-use Rattle.circuit.proofs.Record.{stored-state, padded-state, sound-places}
+use Rattle.circuit.proofs.Record.{stored-state, padded-state, state-stored, sound-places}
+use Rattle.circuit.proofs.Keeps.{Keeps, sound-state}
 
 pub holds : (b : Breaker) (s : List ℕ) → sound b s ≡ true → Holds (b .config) (state b s) b s
 holds b s ok = (stored-state b s ok, padded-state b s ok)
@@ -45,6 +46,15 @@ module _ (rule : Settings → State → Outcome) (b : Breaker) (s : List ℕ) wh
   pub sound-done : sound b s ≡ true → kept (b .config) (rule (settings (b .config)) (state b s)) ≡ onSound rule b s
   unfolding onSound
   sound-done ok = guarded-done (λ r. after (refused r) b s) _ b s ok
+
+  -- what it leaves is sound again, and the state that the rule says
+  pub sound-called : Keeps rule → sound b s ≡ true
+      → let o = rule (settings (b .config)) (state b s) in let left = onSound rule b s in
+      (left .told ≡ o .told) × (sound (left .breaker) (left .places) ≡ true) × (state (left .breaker) (left .places) ≡ o .after) × (left .breaker .config ≡ b .config)
+  sound-called k ok =
+      let c = b .config in
+      let o = rule (settings c) (state b s) in
+      rw (← sound-done ok) (refl, k c (state b s) (sound-state b s ok), state-stored c (o .after), refl)
 
   -- a rule that keeps the list: the record after it, with the places as they were
   pub sound-fields : sound b s ≡ true → (t : Told) (st : State) (next : Breaker) → rule (settings (b .config)) (state b s) ≡ outcome t st → next ≡ stored (b .config) st
