@@ -1,0 +1,5 @@
+-- Laws, by what they speak of.
+pub mod Laid
+pub mod Building
+pub mod Stepping
+pub mod Replaying

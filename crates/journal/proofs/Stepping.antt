@@ -1,0 +1,51 @@
+-- Laws of one call of the journal: its answer's line, and what it leaves of a sound breaker. Assumes nothing.
+use Prim.Native.Nat.{ℕ}
+use mathlib.Core.Path.{_≡_, refl, sym, ap, ap₂, _∙_}
+use mathlib.Core.Bool.{Bool, true, false}
+use mathlib.Core.List.{List, [], _∷_}
+use lib.Dec.{eqb}
+use Rattle.error.specs.Told.{Told, tell, refused, numberOf}
+use Rattle.error.specs.declared.Refusal.{Refusal}
+use Rattle.error.specs.declared.Refusal.the-variants.{Time, Limit, Storage, Unsound, Full}
+use Rattle.trip.specs.declared.Config.{Config}
+use Rattle.circuit.specs.declared.Breaker.{Breaker}
+use Rattle.circuit.specs.Record.{State, settings, state, sound}
+use Rattle.circuit.specs.Rules.{settling, aborting}
+use Rattle.circuit.specs.Calls.{After, after, onSound}
+use Rattle.circuit.proofs.Keeps.{Keeps, sound-finish, sound-admission, sound-reset}
+use Rattle.circuit.proofs.Guard.{sound-called}
+use Rattle.lines.specs.declared.Call.{Call}
+use Rattle.lines.specs.declared.Call.the-variants.{Admit, Success, Failure, Abort, Reset}
+use Rattle.lines.specs.Print.{printLine}
+use Rattle.journal.specs.declared.Stepped.{Stepped}
+use Rattle.journal.specs.Replay.{ticketOf, called, five, answerLine}
+use Rattle.journal.specs.Steps.{lineBy, Says, StepsTo}
+
+-- a refusal's line
+pub refused-line : (r : Refusal) (st : State) → printLine 69 (numberOf r ∷ five st) ≡ answerLine (refused r) st
+refused-line Time st = refl
+refused-line Limit st = refl
+refused-line Storage st = refl
+refused-line Unsound st = refl
+refused-line Full st = refl
+
+-- what an entry point left, told on as the step's
+pub step-of : (call : Call) (b : Breaker) (s s' : List ℕ) (t : Told) (b' : Breaker) (r : Stepped) → after t b' s' ≡ onSound (called call) b s
+    → r .breaker ≡ b' → Says (r .answer) t → StepsTo call b s r s'
+step-of call b s s' t b' r e k f = rw (← e) (k, refl, f)
+
+-- every call keeps a breaker sound
+keeps : (call : Call) → Keeps (called call)
+keeps (Admit t) = sound-admission false t
+keeps (Success t g p) = λ c st ok. sound-finish c t (settling (ticketOf g p) true) st ok
+keeps (Failure t g p) = λ c st ok. sound-finish c t (settling (ticketOf g p) false) st ok
+keeps (Abort t g p) = λ c st ok. sound-finish c 0 (aborting (ticketOf g p) false) st ok
+keeps (Reset t) = sound-reset
+
+-- what a step leaves of a sound breaker with the settings c
+pub stepped : (call : Call) (b : Breaker) (s s' : List ℕ) (r : Stepped) (c : Config) → b .config ≡ c → sound b s ≡ true → StepsTo call b s r s'
+    → let o = called call (settings c) (state b s) in
+    (sound (r .breaker) s' ≡ true) × (state (r .breaker) s' ≡ o .after) × (r .breaker .config ≡ c) × Says (r .answer) (o .told)
+stepped call b s s' r c e ok (p, q, f) =
+    let m = sound-called (called call) b s (keeps call) ok in
+    rw (← e) (ap₂ sound p q ∙ m .1, ap₂ state p q ∙ m .2, ap (λ (x : Breaker). x .config) p ∙ m .3, rw (m .0) at f)

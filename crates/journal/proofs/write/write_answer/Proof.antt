@@ -1,0 +1,65 @@
+-- `journal::write::write_answer` meets its contract. Assumes nothing.
+use Prim.Native.Nat.{_-_, _≤_}
+use mathlib.Core.Path.{_≡_, refl}
+use mathlib.Core.List.{List, [], _∷_}
+use native.Mathlib.Omega.{arith}
+use borrow.Author.Needs.{needs}
+use lib.ListN.{length, take, drop}
+use Rattle.journal.proofs.Laid.{part-all, part-short}
+use Rattle.journal.proofs.write.write_answer.Statement.{statement}
+use Rattle.journal.proofs.write.write_answer.Tie as tie
+
+cast-t8 : tie.Need-cast-t8
+cast-t8 c = search needs
+
+cast-t9 : tie.Need-cast-t9
+cast-t9 c = search needs
+
+cast-t10 : tie.Need-cast-t10
+cast-t10 c = search needs
+
+mul-write-line : tie.Need-mul-write-line
+mul-write-line c = omega (arith, c .before .before .before .before .before .before .pre .1)
+
+sub-write-line : tie.Need-sub-write-line
+sub-write-line c = omega (arith, c .before .before .before .before .before .before .pre .1)
+
+part-write-line-start : tie.Need-part-write-line-start
+part-write-line-start c = omega (arith, c .before .before .before .before .before .before .before .pre .1)
+
+part-write-line-end : tie.Need-part-write-line-end
+part-write-line-end c = search needs
+
+write-line-requires : tie.Need-write-line-requires
+write-line-requires c κs =
+    let a = c .before .before .before .before .before .before .before .before .args .answer in
+    let h = c .before .before .before .before .before .before .before .before .args .breaker .shared in
+    omega (arith, c .before .before .before .before .before .before .before .before .pre .0, part-short (a .skipped) 7 (a .first ∷ a .second ∷ h .state ∷ h .generation ∷ h .inflight ∷ h .successes ∷ h .«open_until» ∷ []) refl)
+
+same-length : tie.Need-same-length
+same-length c = search needs
+
+returns : tie.Need-returns
+returns c =
+    let a = c .before .before .before .before .before .before .before .before .before .before .before .args .answer in
+    let h = c .before .before .before .before .before .before .before .before .before .before .before .args .breaker .shared in
+    let vs = a .first ∷ a .second ∷ h .state ∷ h .generation ∷ h .inflight ∷ h .successes ∷ h .«open_until» ∷ [] in
+    let s = part-short (a .skipped) 7 vs refl in
+    let l = c .before .before .write-line .ensures .1 .1 in
+    let w = rw (part-all (a .skipped) 7 vs refl) at (c .before .before .write-line .ensures) in
+    (w .0, (w .1 .0, omega arith))
+
+pub write-answer-spec : {M : Type 1} → statement M
+write-answer-spec =
+    tie.close
+    (tie.spec
+    cast-t8
+    cast-t9
+    cast-t10
+    mul-write-line
+    sub-write-line
+    part-write-line-start
+    part-write-line-end
+    write-line-requires
+    same-length
+    returns)
