@@ -1,4 +1,4 @@
--- The types of the breaker's calls, as `thin` takes them. Assumes nothing.
+-- The types of the breaker's and a wait's calls, as `thin` takes them. Assumes nothing.
 use mathlib.Core.Path.{refl}
 use mathlib.Core.List.{[], _∷_}
 use Rattle.thin.proofs.Types.{One, ofStruct, ofEnum, Fields, ofFields}
@@ -40,6 +40,26 @@ use Rattle.circuit.proofs.Acquisition as Acquisition
 use Rattle.circuit.proofs.Acquisition.Laws as Acquisition·laws
 use Rattle.circuit.proofs.Reserving as Reserving
 use Rattle.circuit.proofs.Reserving.Laws as Reserving·laws
+use Rattle.wait.proofs.Observed as Observed
+use Rattle.wait.proofs.Observed.Laws as Observed·laws
+use Rattle.wait.proofs.Dropped as Dropped
+use Rattle.wait.proofs.Dropped.Laws as Dropped·laws
+use Rattle.waiting.proofs.Pending as Pending
+use Rattle.waiting.proofs.Pending.Laws as Pending·laws
+use Rattle.waiting.proofs.Begun as Begun
+use Rattle.waiting.proofs.Begun.Laws as Begun·laws
+use Rattle.waiting.proofs.Awaited as Awaited
+use Rattle.waiting.proofs.Awaited.Laws as Awaited·laws
+use Rattle.waiting.proofs.Waited as Waited
+use Rattle.waiting.proofs.Waited.Laws as Waited·laws
+use Rattle.waiting.proofs.Beginning as Beginning
+use Rattle.waiting.proofs.Beginning.Laws as Beginning·laws
+use Rattle.waiting.proofs.Awaiting as Awaiting
+use Rattle.waiting.proofs.Awaiting.Laws as Awaiting·laws
+use Rattle.waiting.proofs.Running as Running
+use Rattle.waiting.proofs.Running.Laws as Running·laws
+use Rattle.waiting.proofs.Leaving as Leaving
+use Rattle.waiting.proofs.Leaving.Laws as Leaving·laws
 
 -- ---- records and settings
 
@@ -51,6 +71,12 @@ ticket = ofStruct Ticket.the-type Ticket·laws.the-laws Ticket·laws.the-plain
 
 abbrev pub builder : One
 builder = ofStruct CircuitBreakerBuilder.the-type CircuitBreakerBuilder·laws.the-laws CircuitBreakerBuilder·laws.the-plain
+
+abbrev pub pending : One
+pending = ofStruct Pending.the-type Pending·laws.the-laws Pending·laws.the-plain
+
+abbrev pub observed : One
+observed = ofStruct Observed.the-type Observed·laws.the-laws Observed·laws.the-plain
 
 -- ---- inner replies, and answers
 
@@ -84,6 +110,18 @@ reserved = ofEnum Reserved.the-type Reserved·laws.the-laws tt Reserved·laws.th
 abbrev pub counted : One
 counted = ofEnum Counted.the-type Counted·laws.the-laws tt Counted·laws.the-plain
 
+abbrev pub begun : One
+begun = ofEnum Begun.the-type Begun·laws.the-laws tt Begun·laws.the-plain
+
+abbrev pub awaited : One
+awaited = ofEnum Awaited.the-type Awaited·laws.the-laws tt Awaited·laws.the-plain
+
+abbrev pub waited : One
+waited = ofStruct Waited.the-type Waited·laws.the-laws Waited·laws.the-plain
+
+abbrev pub dropped : One
+dropped = ofEnum Dropped.the-type Dropped·laws.the-laws tt Dropped·laws.the-plain
+
 -- ---- what a step returns
 
 abbrev pub settled : Fields (finished ∷ breaker ∷ [])
@@ -103,3 +141,15 @@ acquisition = ofFields Acquisition.the-type Acquisition·laws.the-laws (λ z. (z
 
 abbrev pub reserving : Fields (reserved ∷ breaker ∷ [])
 reserving = ofFields Reserving.the-type Reserving·laws.the-laws (λ z. (z .answer, (z .breaker, tt))) refl (λ z. refl) (λ z are. are)
+
+abbrev pub beginning : Fields (begun ∷ breaker ∷ pending ∷ [])
+beginning = ofFields Beginning.the-type Beginning·laws.the-laws (λ z. (z .answer, (z .breaker, (z .pending, tt)))) refl (λ z. refl) (λ z are. are)
+
+abbrev pub awaiting : Fields (awaited ∷ breaker ∷ pending ∷ [])
+awaiting = ofFields Awaiting.the-type Awaiting·laws.the-laws (λ z. (z .answer, (z .breaker, (z .pending, tt)))) refl (λ z. refl) (λ z are. are)
+
+abbrev pub running : Fields (waited ∷ breaker ∷ pending ∷ [])
+running = ofFields Running.the-type Running·laws.the-laws (λ z. (z .answer, (z .breaker, (z .pending, tt)))) refl (λ z. refl) (λ z are. are)
+
+abbrev pub leaving : Fields (dropped ∷ breaker ∷ pending ∷ [])
+leaving = ofFields Leaving.the-type Leaving·laws.the-laws (λ z. (z .answer, (z .breaker, (z .pending, tt)))) refl (λ z. refl) (λ z are. are)

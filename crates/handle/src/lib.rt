@@ -1,4 +1,4 @@
-// The breaker's calls over a record that the caller lends: each is thin over circuit's step by value.
+// The breaker's calls, and those of a wait before it, over records that the caller lends: each is thin over its step by value.
 ghost use mathlib.Core.Path.{_≡_};
 ghost use mathlib.Core.Bool.{true, false};
 ghost use Rattle.circuit.specs.Record.{HalfOpen, sound};
@@ -8,6 +8,10 @@ ghost use Rattle.circuit.specs.Calls.{after, onSound, asked};
 ghost use Rattle.circuit.specs.Rules as Rules;
 ghost use Rattle.circuit.specs.Orders.{FinishingOrders};
 ghost use Rattle.circuit.specs.Batch.{batch, slices, finishedAll};
+ghost use Rattle.wait.specs.Answers.{droppedTold};
+ghost use Rattle.waiting.specs.Answers.{begunTold, awaitedTold, courseTold};
+ghost use Rattle.waiting.specs.Calls as Waits;
+ghost use Rattle.waiting.specs.Calls.{report};
 use circuit::Admission;
 use circuit::Breaker;
 use circuit::Counted;
@@ -21,6 +25,12 @@ use circuit::Standing;
 use circuit::Ticket;
 use circuit::Tried;
 use trip::CircuitBreakerBuilder;
+use wait::Dropped;
+use wait::Observed;
+use waiting::Awaited;
+use waiting::Begun;
+use waiting::Pending;
+use waiting::Waited;
 
 // ---- calls that may change the record; one that is refused leaves all as it was
 
@@ -243,6 +253,75 @@ pub fn finish_all(
         answers,
     );
     *breaker = s.breaker;
+    s.answer
+}
+
+// ---- calls of a wait; one that is refused leaves the breaker as it was
+
+// Admits a call, and begins its wait for the inner limiter.
+// Ruled out: a probe taken and not stored; a shed that ends the wait that was pending.
+pub fn wait_start(
+    breaker: &mut Breaker,
+    list: &mut [u64],
+    pending: &mut Pending,
+    now_ms: u64,
+    clock: u64,
+    limited: bool,
+    timeout: u64,
+) -> Begun
+    ensures { λ r. ⌜ Waits.after (begunTold r) (now (breaker .exit)) (now (list .exit)) (now (pending .exit)) ≡ Waits.starting «now_ms» clock limited timeout (now (breaker .entry)) (now (list .entry)) (now (pending .entry)) ⌝ }
+{
+    let s = waiting::start(*breaker, list, *pending, now_ms, clock, limited, timeout);
+    *breaker = s.breaker;
+    *pending = s.pending;
+    s.answer
+}
+
+// One turn: what the host is to do before the next, or how the wait ends.
+// Ruled out: a turn told and its wait not stored; a deadline told and its ticket kept.
+pub fn wait_turn(
+    breaker: &mut Breaker,
+    list: &mut [u64],
+    pending: &mut Pending,
+    turn: Observed,
+    now_ms: u64,
+    capacity: u32,
+) -> Awaited
+    ensures { λ r. ⌜ Waits.after (awaitedTold r) (now (breaker .exit)) (now (list .exit)) (now (pending .exit)) ≡ Waits.turning turn «now_ms» capacity (now (breaker .entry)) (now (list .entry)) (now (pending .entry)) ⌝ }
+{
+    let s = waiting::turn(*breaker, list, *pending, turn, now_ms, capacity);
+    *breaker = s.breaker;
+    *pending = s.pending;
+    s.answer
+}
+
+// Takes turns until the wait ends, one is refused, or the limit or the turns are used up; says how many it took.
+// Ruled out: a run that takes its first turn only; one that leaves the wait as it was before.
+pub fn wait_run(
+    breaker: &mut Breaker,
+    list: &mut [u64],
+    pending: &mut Pending,
+    turns: &[u64],
+    limit: u64,
+    now_ms: u64,
+    capacity: u32,
+) -> Waited
+    ensures { λ r. ⌜ report (Waits.after (courseTold (r .course)) (now (breaker .exit)) (now (list .exit)) (now (pending .exit))) (r .taken) ≡ Waits.running (now (turns .entry)) limit «now_ms» capacity (now (breaker .entry)) (now (list .entry)) (now (pending .entry)) ⌝ }
+{
+    let s = waiting::run(*breaker, list, *pending, turns, limit, now_ms, capacity);
+    *breaker = s.breaker;
+    *pending = s.pending;
+    s.answer
+}
+
+// Ends a wait before its time: the ticket is given back, and a held grant is to be.
+// Ruled out: a drop whose ticket stays out; a wait that can be dropped twice.
+pub fn wait_drop(breaker: &mut Breaker, list: &mut [u64], pending: &mut Pending) -> Dropped
+    ensures { λ r. ⌜ Waits.after (droppedTold r) (now (breaker .exit)) (now (list .exit)) (now (pending .exit)) ≡ Waits.leaving (now (breaker .entry)) (now (list .entry)) (now (pending .entry)) ⌝ }
+{
+    let s = waiting::drop_pending(*breaker, list, *pending);
+    *breaker = s.breaker;
+    *pending = s.pending;
     s.answer
 }
 
