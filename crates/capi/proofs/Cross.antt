@@ -1,4 +1,4 @@
--- What a step leaves, from what circuit's step left and what was told of it. Assumes nothing.
+-- What a step leaves, from what circuit's or waiting's step left and what was told of it. Assumes nothing.
 use Prim.Native.Nat.{ℕ}
 use mathlib.Core.Path.{_≡_, ap, _∙_}
 use mathlib.Core.Bool.{Bool, true, false}
@@ -12,9 +12,13 @@ use Rattle.circuit.specs.Record.{Settings, State}
 use Rattle.circuit.specs.Rules.{Outcome}
 use Rattle.circuit.specs.Calls.{After, after, guarded, onSound, asked, built}
 use Rattle.circuit.specs.Batch.{Batch, batch}
+use Rattle.waiting.specs.declared.Pending.{Pending}
+use Rattle.waiting.specs.Calls as Waits
 use Rattle.capi.specs.declared.Told.{Told}
 use Rattle.capi.specs.declared.Setting.{Setting}
+use Rattle.capi.specs.declared.Waited.{Waited}
 use Rattle.capi.specs.Crossing.{packed, Crossing, crossing, crossed, crossings, crossedAll, known, onReply, askedReply, builderBy, builtBy}
+use Rattle.capi.specs.Waits.{packedWait, crossingWait, crossedWait, crossedRun}
 
 module _ (r : Told) (t : Answer) (b : Breaker) (s : List ℕ) (told : r ≡ packed t) where
   pub cross : (a : After) → after t b s ≡ a → crossing r b s ≡ crossed a
@@ -24,6 +28,15 @@ module _ (r : Told) (t : Answer) (b : Breaker) (s : List ℕ) (told : r ≡ pack
   pub cross-all : (answers : List ℕ) (a : Batch) → batch (after t b s) answers ≡ a → crossings (crossing r b s) answers ≡ crossedAll a
   unfolding crossed crossedAll
   cross-all answers a q = ap (λ (x : Told). crossings (crossing x b s) answers) told ∙ ap crossedAll q
+
+module _ (r : Waited) (t : Answer) (n : ℕ) (b : Breaker) (s : List ℕ) (p : Pending) (told : r ≡ packedWait t n) where
+  pub cross-wait : n ≡ 0 → (a : Waits.After) → Waits.after t b s p ≡ a → crossingWait r b s p ≡ crossedWait a
+  unfolding crossedWait
+  cross-wait z a q = ap (λ (x : Waited). crossingWait x b s p) (told ∙ ap (packedWait t) z) ∙ ap crossedWait q
+
+  pub cross-run : (x : Waits.Report) → Waits.report (Waits.after t b s p) n ≡ x → crossingWait r b s p ≡ crossedRun x
+  unfolding crossedRun
+  cross-run x q = ap (λ (w : Waited). crossingWait w b s p) told ∙ ap crossedRun q
 
 module _ (ok : Bool) (b : Breaker) (s : List ℕ) where
   pub known-reply : (rule : Settings → State → Outcome) → ok ≡ true → onSound rule b s ≡ onReply ok rule b s

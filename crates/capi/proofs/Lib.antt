@@ -2,3 +2,4 @@
 pub mod Types
 pub mod Cross
 pub mod Packed
+pub mod PackedWait

@@ -6,12 +6,20 @@ use Rattle.circuit.proofs.Breaker as Breaker
 use Rattle.circuit.proofs.Breaker.Laws as Breaker·laws
 use Rattle.circuit.proofs.Ticket as Ticket
 use Rattle.circuit.proofs.Ticket.Laws as Ticket·laws
+use Rattle.wait.proofs.Observed as Observed
+use Rattle.wait.proofs.Observed.Laws as Observed·laws
+use Rattle.waiting.proofs.Pending as Pending
+use Rattle.waiting.proofs.Pending.Laws as Pending·laws
 use Rattle.capi.proofs.Told as Told
 use Rattle.capi.proofs.Told.Laws as Told·laws
 use Rattle.capi.proofs.Setting as Setting
 use Rattle.capi.proofs.Setting.Laws as Setting·laws
 use Rattle.capi.proofs.Step as Step
 use Rattle.capi.proofs.Step.Laws as Step·laws
+use Rattle.capi.proofs.Waited as Waited
+use Rattle.capi.proofs.Waited.Laws as Waited·laws
+use Rattle.capi.proofs.WaitStep as WaitStep
+use Rattle.capi.proofs.WaitStep.Laws as WaitStep·laws
 
 abbrev pub breaker : One
 breaker = ofStruct Breaker.the-type Breaker·laws.the-laws Breaker·laws.the-plain
@@ -27,3 +35,17 @@ setting = ofStruct Setting.the-type Setting·laws.the-laws Setting·laws.the-pla
 
 abbrev pub step : Fields (told ∷ breaker ∷ [])
 step = ofFields Step.the-type Step·laws.the-laws (λ z. (z .answer, (z .breaker, tt))) refl (λ z. refl) (λ z are. are)
+
+-- ---- waits
+
+abbrev pub pending : One
+pending = ofStruct Pending.the-type Pending·laws.the-laws Pending·laws.the-plain
+
+abbrev pub observed : One
+observed = ofStruct Observed.the-type Observed·laws.the-laws Observed·laws.the-plain
+
+abbrev pub waited : One
+waited = ofStruct Waited.the-type Waited·laws.the-laws Waited·laws.the-plain
+
+abbrev pub waitStep : Fields (waited ∷ breaker ∷ pending ∷ [])
+waitStep = ofFields WaitStep.the-type WaitStep·laws.the-laws (λ z. (z .answer, (z .breaker, (z .pending, tt)))) refl (λ z. refl) (λ z are. are)

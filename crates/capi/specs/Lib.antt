@@ -1,2 +1,3 @@
 -- What crosses to C.
 pub mod Crossing
+pub mod Waits

@@ -1,4 +1,4 @@
-// The breaker for C: exported functions over a record and storage that the caller lends, each thin over its step by value.
+// The breaker, and a wait before it, for C: exported functions over records and storage that the caller lends, each thin over its step by value.
 // Only numbers cross. `include/pudvirez.h` declares what stands here.
 ghost use mathlib.Core.Path.{_≡_};
 ghost use mathlib.Core.Bool.{true, false};
@@ -9,13 +9,18 @@ ghost use Rattle.circuit.specs.Rules as Rules;
 ghost use Rattle.circuit.specs.Orders.{FinishingOrders};
 ghost use Rattle.circuit.specs.Batch.{slices, finishedAll};
 ghost use Rattle.capi.specs.Crossing.{packed, crossing, crossed, crossings, crossedAll, known, decisionBy, reservable, reservationBy, onReply, askedReply, builtBy};
+ghost use Rattle.waiting.specs.Calls as Waits;
+ghost use Rattle.capi.specs.Waits.{crossingWait, crossedWait, crossedRun};
 
 mod reply;
 mod steps;
 mod tell;
+mod waits;
 
 use circuit::Breaker;
 use circuit::Ticket;
+use wait::Observed;
+use waiting::Pending;
 
 // What a caller is told: the number of document 01's table, 0 where the call was not refused,
 // and the values of circuit's specs/Answers in their order, 0 where there is none. A probe flag is a value of 0 or 1.
@@ -24,6 +29,17 @@ pub struct Told {
     pub number: u32,
     pub v1: u64,
     pub v2: u64,
+}
+
+// What a caller of a wait is told: as above, with the values of waiting's specs/Answers, and the turns that a run took.
+#[repr(C)]
+pub struct Waited {
+    pub number: u32,
+    pub v1: u64,
+    pub v2: u64,
+    pub v3: u64,
+    // 0 where the call is no run
+    pub taken: u64,
 }
 
 // A setting. The numbers of another policy than its own are not read.
@@ -48,6 +64,13 @@ pub struct Setting {
 pub struct Step {
     pub answer: Told,
     pub breaker: Breaker,
+}
+
+// The answer of a wait's step, and the record and the wait after it.
+pub struct WaitStep {
+    pub answer: Waited,
+    pub breaker: Breaker,
+    pub pending: Pending,
 }
 
 // ---- calls that may change the record; one that is refused leaves all as it was
@@ -305,6 +328,83 @@ pub extern "C" fn pudvirez_finish_all(
         answers,
     );
     *breaker = s.breaker;
+    s.answer
+}
+
+// ---- calls of a wait; one that is refused leaves the breaker as it was
+
+// Admits a call, and begins its wait for the inner limiter: 0, or 6 with the delay. A time over 2^62 is told 1, before the admission.
+// Ruled out: a probe taken and not stored; a shed that changes the pending wait.
+#[no_mangle]
+pub extern "C" fn pudvirez_wait_start(
+    breaker: &mut Breaker,
+    list: &mut [u64],
+    pending: &mut Pending,
+    now_ms: u64,
+    clock: u64,
+    limited: bool,
+    timeout: u64,
+) -> Waited
+    ensures { λ r. ⌜ crossingWait r (now (breaker .exit)) (now (list .exit)) (now (pending .exit)) ≡ crossedWait (Waits.starting «now_ms» clock limited timeout (now (breaker .entry)) (now (list .entry)) (now (pending .entry))) ⌝ }
+{
+    let s = waits::wait_start_step(*breaker, list, *pending, now_ms, clock, limited, timeout);
+    *breaker = s.breaker;
+    *pending = s.pending;
+    s.answer
+}
+
+// One turn: 0 with what the host is to do, or with the ticket of an admission; 6, 8 or 9 where the wait ends without one.
+// Ruled out: a turn told and its wait not stored; a deadline told and its ticket kept.
+#[no_mangle]
+pub extern "C" fn pudvirez_wait_turn(
+    breaker: &mut Breaker,
+    list: &mut [u64],
+    pending: &mut Pending,
+    turn: Observed,
+    now_ms: u64,
+    capacity: u32,
+) -> Waited
+    ensures { λ r. ⌜ crossingWait r (now (breaker .exit)) (now (list .exit)) (now (pending .exit)) ≡ crossedWait (Waits.turning turn «now_ms» capacity (now (breaker .entry)) (now (list .entry)) (now (pending .entry))) ⌝ }
+{
+    let s = waits::wait_turn_step(*breaker, list, *pending, turn, now_ms, capacity);
+    *breaker = s.breaker;
+    *pending = s.pending;
+    s.answer
+}
+
+// Takes turns until the wait ends, one is refused, or the limit or the turns are used up, which is told 10; and how many it took.
+// Ruled out: a run that takes its first turn only; a count that isn't that of the rules.
+#[no_mangle]
+pub extern "C" fn pudvirez_wait_run(
+    breaker: &mut Breaker,
+    list: &mut [u64],
+    pending: &mut Pending,
+    turns: &[u64],
+    limit: u64,
+    now_ms: u64,
+    capacity: u32,
+) -> Waited
+    ensures { λ r. ⌜ crossingWait r (now (breaker .exit)) (now (list .exit)) (now (pending .exit)) ≡ crossedRun (Waits.running (now (turns .entry)) limit «now_ms» capacity (now (breaker .entry)) (now (list .entry)) (now (pending .entry))) ⌝ }
+{
+    let s = waits::wait_run_step(*breaker, list, *pending, turns, limit, now_ms, capacity);
+    *breaker = s.breaker;
+    *pending = s.pending;
+    s.answer
+}
+
+// Ends a wait before its time: the ticket is given back; 0 with 1 to give back to the inner limiter where a grant is held, else with 0.
+// Ruled out: a drop whose ticket stays out; a wait that can be dropped twice.
+#[no_mangle]
+pub extern "C" fn pudvirez_wait_drop(
+    breaker: &mut Breaker,
+    list: &mut [u64],
+    pending: &mut Pending,
+) -> Waited
+    ensures { λ r. ⌜ crossingWait r (now (breaker .exit)) (now (list .exit)) (now (pending .exit)) ≡ crossedWait (Waits.leaving (now (breaker .entry)) (now (list .entry)) (now (pending .entry))) ⌝ }
+{
+    let s = waits::wait_drop_step(*breaker, list, *pending);
+    *breaker = s.breaker;
+    *pending = s.pending;
     s.answer
 }
 

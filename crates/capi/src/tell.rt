@@ -18,7 +18,7 @@ use circuit::Tried;
 use error::Refusal;
 
 // A probe flag as a value.
-fn flag(probe: bool) -> u64
+pub fn flag(probe: bool) -> u64
     ensures { λ r. ⌜ r ≡ bit probe ⌝ }
 {
     if probe {

@@ -1,0 +1,21 @@
+-- `capi::waits::wait_turn_step` meets its contract: waiting's step, and its answer packed. Assumes nothing.
+use mathlib.Core.Path.{refl}
+use Rattle.capi.proofs.Cross.{cross-wait}
+use borrow.Author.Needs.{needs}
+use Rattle.capi.proofs.waits.wait_turn_step.Statement.{statement}
+use Rattle.capi.proofs.waits.wait_turn_step.Tie as tie
+
+turn-requires : tie.Need-turn-requires
+turn-requires c κs = search needs
+
+tell-awaited-requires : tie.Need-tell-awaited-requires
+tell-awaited-requires c κs = search needs
+
+same-length : tie.Need-same-length
+same-length c = search needs
+
+returns : tie.Need-returns
+returns c = cross-wait _ _ _ _ _ _ (c .tell-awaited .ensures) refl _ (c .before .before .before .before .before .turn .ensures)
+
+pub wait-turn-step-spec : {M : Type 1} → statement M
+wait-turn-step-spec = tie.close (tie.spec turn-requires tell-awaited-requires same-length returns)
