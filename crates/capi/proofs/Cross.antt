@@ -7,11 +7,11 @@ use lib.ListN.{length}
 use borrow.Author.Tests.{eq-eqb, ne-eqb}
 use Rattle.error.specs.Told.{Told as Answer, tell, refused}
 use Rattle.error.specs.declared.Refusal.the-variants.{Storage, Unsound}
-use Rattle.circuit.specs.declared.Breaker.{Breaker}
-use Rattle.circuit.specs.Record.{Settings, State}
-use Rattle.circuit.specs.Rules.{Outcome}
-use Rattle.circuit.specs.Calls.{After, after, guarded, onSound, asked, built}
-use Rattle.circuit.specs.Batch.{Batch, batch}
+use Rattle.breaker.specs.declared.Breaker.{Breaker}
+use Rattle.breaker.specs.Record.{Settings, State}
+use Rattle.breaker.specs.Rules.{Outcome}
+use Rattle.breaker.specs.Calls.{After, after, guarded, onSound, asked, built}
+use Rattle.breaker.specs.Batch.{Batch, batch}
 use Rattle.waiting.specs.declared.Pending.{Pending}
 use Rattle.waiting.specs.Calls as Waits
 use Rattle.capi.specs.declared.Told.{Told}

@@ -7,25 +7,25 @@ use Rattle.error.specs.Choice.{if_then_else_}
 use Rattle.error.specs.Told.{Told as Answer, tell, refused}
 use Rattle.error.specs.declared.Refusal.{Refusal}
 use Rattle.error.specs.declared.Refusal.the-variants.{Time, Limit, Storage, Unsound, Full, Turn}
-use Rattle.circuit.specs.declared.Admission.{Admission}
-use Rattle.circuit.specs.declared.Admission.the-variants as Admission·is
-use Rattle.circuit.specs.declared.Finished.{Finished}
-use Rattle.circuit.specs.declared.Finished.the-variants as Finished·is
-use Rattle.circuit.specs.declared.Tried.{Tried}
-use Rattle.circuit.specs.declared.Tried.the-variants as Tried·is
-use Rattle.circuit.specs.declared.Standing.{Standing}
-use Rattle.circuit.specs.declared.Standing.the-variants as Standing·is
-use Rattle.circuit.specs.declared.Notice.{Notice}
-use Rattle.circuit.specs.declared.Notice.the-variants as Notice·is
-use Rattle.circuit.specs.declared.Decision.the-variants as Decision·is
-use Rattle.circuit.specs.declared.Decided.{Decided}
-use Rattle.circuit.specs.declared.Decided.the-variants as Decided·is
-use Rattle.circuit.specs.declared.Reservation.the-variants as Reservation·is
-use Rattle.circuit.specs.declared.Reserved.{Reserved}
-use Rattle.circuit.specs.declared.Reserved.the-variants as Reserved·is
-use Rattle.circuit.specs.declared.Counted.{Counted}
-use Rattle.circuit.specs.declared.Counted.the-variants as Counted·is
-use Rattle.circuit.specs.Answers.{admissionTold, finishedTold, triedTold, standingTold, noticeTold, decidedTold, reservedTold, countedTold}
+use Rattle.breaker.specs.declared.Admission.{Admission}
+use Rattle.breaker.specs.declared.Admission.the-variants as Admission·is
+use Rattle.breaker.specs.declared.Finished.{Finished}
+use Rattle.breaker.specs.declared.Finished.the-variants as Finished·is
+use Rattle.breaker.specs.declared.Tried.{Tried}
+use Rattle.breaker.specs.declared.Tried.the-variants as Tried·is
+use Rattle.breaker.specs.declared.Standing.{Standing}
+use Rattle.breaker.specs.declared.Standing.the-variants as Standing·is
+use Rattle.breaker.specs.declared.Notice.{Notice}
+use Rattle.breaker.specs.declared.Notice.the-variants as Notice·is
+use Rattle.breaker.specs.declared.Decision.the-variants as Decision·is
+use Rattle.breaker.specs.declared.Decided.{Decided}
+use Rattle.breaker.specs.declared.Decided.the-variants as Decided·is
+use Rattle.breaker.specs.declared.Reservation.the-variants as Reservation·is
+use Rattle.breaker.specs.declared.Reserved.{Reserved}
+use Rattle.breaker.specs.declared.Reserved.the-variants as Reserved·is
+use Rattle.breaker.specs.declared.Counted.{Counted}
+use Rattle.breaker.specs.declared.Counted.the-variants as Counted·is
+use Rattle.breaker.specs.Answers.{admissionTold, finishedTold, triedTold, standingTold, noticeTold, decidedTold, reservedTold, countedTold}
 use Rattle.capi.specs.declared.Told.{Told}
 use Rattle.capi.specs.Crossing.{packed}
 

@@ -2,10 +2,10 @@
 use mathlib.Core.Path.{refl}
 use mathlib.Core.List.{[], _∷_}
 use Rattle.thin.proofs.Types.{One, ofStruct, Fields, ofFields}
-use Rattle.circuit.proofs.Breaker as Breaker
-use Rattle.circuit.proofs.Breaker.Laws as Breaker·laws
-use Rattle.circuit.proofs.Ticket as Ticket
-use Rattle.circuit.proofs.Ticket.Laws as Ticket·laws
+use Rattle.breaker.proofs.Breaker as Breaker
+use Rattle.breaker.proofs.Breaker.Laws as Breaker·laws
+use Rattle.breaker.proofs.Ticket as Ticket
+use Rattle.breaker.proofs.Ticket.Laws as Ticket·laws
 use Rattle.wait.proofs.Observed as Observed
 use Rattle.wait.proofs.Observed.Laws as Observed·laws
 use Rattle.waiting.proofs.Pending as Pending

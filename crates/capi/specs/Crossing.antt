@@ -10,16 +10,16 @@ use Rattle.error.specs.declared.Refusal.the-variants.{Storage, Unsound}
 use Rattle.trip.specs.declared.Trip.{Trip}
 use Rattle.trip.specs.declared.Trip.the-variants.{Consecutive, Ratio, Windowed}
 use Rattle.trip.specs.declared.CircuitBreakerBuilder.{CircuitBreakerBuilder}
-use Rattle.circuit.specs.declared.Breaker.{Breaker}
-use Rattle.circuit.specs.declared.Decision.{Decision}
-use Rattle.circuit.specs.declared.Decision.the-variants.{Acquired, Retry, Impossible}
-use Rattle.circuit.specs.declared.Reservation.{Reservation}
-use Rattle.circuit.specs.declared.Reservation.the-variants.{Wait, Nothing}
-use Rattle.circuit.specs.Record.{Settings, State}
-use Rattle.circuit.specs.Answers.{delayOf}
-use Rattle.circuit.specs.Rules.{Outcome}
-use Rattle.circuit.specs.Calls.{After, after, guarded, onSound, asked, built}
-use Rattle.circuit.specs.Batch.{Batch}
+use Rattle.breaker.specs.declared.Breaker.{Breaker}
+use Rattle.breaker.specs.declared.Decision.{Decision}
+use Rattle.breaker.specs.declared.Decision.the-variants.{Acquired, Retry, Impossible}
+use Rattle.breaker.specs.declared.Reservation.{Reservation}
+use Rattle.breaker.specs.declared.Reservation.the-variants.{Wait, Nothing}
+use Rattle.breaker.specs.Record.{Settings, State}
+use Rattle.breaker.specs.Answers.{delayOf}
+use Rattle.breaker.specs.Rules.{Outcome}
+use Rattle.breaker.specs.Calls.{After, after, guarded, onSound, asked, built}
+use Rattle.breaker.specs.Batch.{Batch}
 use Rattle.capi.specs.declared.Told.{Told}
 use Rattle.capi.specs.declared.Setting.{Setting}
 

@@ -2,7 +2,7 @@
 use Prim.Native.Nat.{ℕ}
 use mathlib.Core.List.{List, [], _∷_}
 use Rattle.error.specs.Told.{Told as Answer}
-use Rattle.circuit.specs.declared.Breaker.{Breaker}
+use Rattle.breaker.specs.declared.Breaker.{Breaker}
 use Rattle.waiting.specs.declared.Pending.{Pending}
 use Rattle.waiting.specs.Calls.{After, Report}
 use Rattle.capi.specs.declared.Waited.{Waited}

@@ -2,12 +2,12 @@
 // Only numbers cross. `include/pudvirez.h` declares what stands here.
 ghost use mathlib.Core.Path.{_≡_};
 ghost use mathlib.Core.Bool.{true, false};
-ghost use Rattle.circuit.specs.Record.{HalfOpen, sound};
-ghost use Rattle.circuit.specs.Calls as Calls;
-ghost use Rattle.circuit.specs.Calls.{onSound, asked};
-ghost use Rattle.circuit.specs.Rules as Rules;
-ghost use Rattle.circuit.specs.Orders.{FinishingOrders};
-ghost use Rattle.circuit.specs.Batch.{slices, finishedAll};
+ghost use Rattle.breaker.specs.Record.{HalfOpen, sound};
+ghost use Rattle.breaker.specs.Calls as Calls;
+ghost use Rattle.breaker.specs.Calls.{onSound, asked};
+ghost use Rattle.breaker.specs.Rules as Rules;
+ghost use Rattle.breaker.specs.Orders.{FinishingOrders};
+ghost use Rattle.breaker.specs.Batch.{slices, finishedAll};
 ghost use Rattle.capi.specs.Crossing.{packed, crossing, crossed, crossings, crossedAll, known, decisionBy, reservable, reservationBy, onReply, askedReply, builtBy};
 ghost use Rattle.waiting.specs.Calls as Waits;
 ghost use Rattle.capi.specs.Waits.{crossingWait, crossedWait, crossedRun};
@@ -17,8 +17,8 @@ mod steps;
 mod tell;
 mod waits;
 
-use circuit::Breaker;
-use circuit::Ticket;
+use breaker::Breaker;
+use breaker::Ticket;
 use wait::Observed;
 use waiting::Pending;
 

@@ -1,12 +1,12 @@
 // The steps by value under the exported functions, `f_step` under `pudvirez_f`: numbers in, circuit's step, numbers out.
 ghost use mathlib.Core.Path.{_≡_};
 ghost use mathlib.Core.Bool.{true, false};
-ghost use Rattle.circuit.specs.Record.{HalfOpen, sound};
-ghost use Rattle.circuit.specs.Calls as Calls;
-ghost use Rattle.circuit.specs.Calls.{onSound, asked};
-ghost use Rattle.circuit.specs.Rules as Rules;
-ghost use Rattle.circuit.specs.Orders.{FinishingOrders};
-ghost use Rattle.circuit.specs.Batch.{slices, finishedAll};
+ghost use Rattle.breaker.specs.Record.{HalfOpen, sound};
+ghost use Rattle.breaker.specs.Calls as Calls;
+ghost use Rattle.breaker.specs.Calls.{onSound, asked};
+ghost use Rattle.breaker.specs.Rules as Rules;
+ghost use Rattle.breaker.specs.Orders.{FinishingOrders};
+ghost use Rattle.breaker.specs.Batch.{slices, finishedAll};
 ghost use Rattle.capi.specs.Crossing.{packed, crossing, crossed, crossings, crossedAll, known, decisionBy, reservable, reservationBy, onReply, askedReply, builtBy};
 use crate::Setting;
 use crate::Step;
@@ -26,8 +26,8 @@ use crate::tell::tell_refusal;
 use crate::tell::tell_reserved;
 use crate::tell::tell_standing;
 use crate::tell::tell_tried;
-use circuit::Breaker;
-use circuit::Ticket;
+use breaker::Breaker;
+use breaker::Ticket;
 use error::Refusal;
 
 // Ruled out: an unknown kind handed to the builder; a refused build told 0.

@@ -2,19 +2,19 @@
 ghost use mathlib.Core.Path.{_≡_};
 ghost use Rattle.error.specs.Told.{refused};
 ghost use Rattle.history.specs.Change.{bit};
-ghost use Rattle.circuit.specs.Answers.{admissionTold, finishedTold, triedTold, standingTold, noticeTold, decisionValues, decidedTold, reservedTold, countedTold};
+ghost use Rattle.breaker.specs.Answers.{admissionTold, finishedTold, triedTold, standingTold, noticeTold, decisionValues, decidedTold, reservedTold, countedTold};
 ghost use Rattle.capi.specs.Crossing.{packed};
 use crate::Told;
-use circuit::Admission;
-use circuit::Counted;
-use circuit::Decided;
-use circuit::Decision;
-use circuit::Finished;
-use circuit::Notice;
-use circuit::Reservation;
-use circuit::Reserved;
-use circuit::Standing;
-use circuit::Tried;
+use breaker::Admission;
+use breaker::Counted;
+use breaker::Decided;
+use breaker::Decision;
+use breaker::Finished;
+use breaker::Notice;
+use breaker::Reservation;
+use breaker::Reserved;
+use breaker::Standing;
+use breaker::Tried;
 use error::Refusal;
 
 // A probe flag as a value.

@@ -8,7 +8,7 @@ ghost use Rattle.capi.specs.Waits.{packedWait, crossingWait, crossedWait
 use crate::WaitStep;
 use crate::Waited;
 use crate::tell::flag;
-use circuit::Breaker;
+use breaker::Breaker;
 use error::Refusal;
 use wait::Act;
 use wait::Dropped;

@@ -7,23 +7,23 @@ use native.Mathlib.Omega.{arith}
 use Rattle.error.specs.Told.{Told, tell}
 use Rattle.history.specs.Items.{padded}
 use Rattle.trip.specs.declared.Config.{Config}
-use Rattle.circuit.specs.declared.Ticket.{Ticket}
-use Rattle.circuit.specs.declared.Breaker.{Breaker}
-use Rattle.circuit.specs.declared.Delay.{Delay}
+use Rattle.breaker.specs.declared.Ticket.{Ticket}
+use Rattle.breaker.specs.declared.Breaker.{Breaker}
+use Rattle.breaker.specs.declared.Delay.{Delay}
 use Rattle.circuit.specs.declared.Entry.the-variants.{Granted, Shed}
-use Rattle.circuit.specs.declared.Decision.{Decision}
-use Rattle.circuit.specs.declared.Decision.the-variants.{Acquired, Retry, Impossible}
-use Rattle.circuit.specs.declared.Reservation.{Reservation}
-use Rattle.circuit.specs.declared.Reservation.the-variants.{Wait, Nothing}
+use Rattle.breaker.specs.declared.Decision.{Decision}
+use Rattle.breaker.specs.declared.Decision.the-variants.{Acquired, Retry, Impossible}
+use Rattle.breaker.specs.declared.Reservation.{Reservation}
+use Rattle.breaker.specs.declared.Reservation.the-variants.{Wait, Nothing}
 use Rattle.error.specs.Choice.{if_then_else_}
-use Rattle.circuit.specs.Record.{Settings, State, settings, state, stored, sound}
-use Rattle.circuit.specs.Answers.{delayValues, delayOf, ticketValues, decisionValues, reservationValues}
-use Rattle.circuit.specs.Rules.{Outcome, Admitted, granted, shed, admit, admitAs, viaTrait, noted, sheds, finish, aborting, outcome}
-use Rattle.circuit.specs.Calls.{After, after, kept, answered, admission, tryInner, tryAdmit, handedOn, isAcquired, retry, acquireInner, acquireCost, isReserved, reserveInner, reserve, peekInner, peek, availableInner, available}
-use Rattle.circuit.specs.Orders.{nothing}
+use Rattle.breaker.specs.Record.{Settings, State, settings, state, stored, sound}
+use Rattle.breaker.specs.Answers.{delayValues, delayOf, ticketValues, decisionValues, reservationValues}
+use Rattle.breaker.specs.Rules.{Outcome, Admitted, granted, shed, admit, admitAs, viaTrait, noted, sheds, finish, aborting, outcome}
+use Rattle.breaker.specs.Calls.{After, after, kept, answered, admission, tryInner, tryAdmit, handedOn, isAcquired, retry, acquireInner, acquireCost, isReserved, reserveInner, reserve, peekInner, peek, availableInner, available}
+use Rattle.breaker.specs.Orders.{nothing}
 use Rattle.circuit.specs.Locked.{entry, Holds}
-use Rattle.circuit.proofs.Cases.{admit-cases}
-use Rattle.circuit.proofs.Guard.{holds}
+use Rattle.breaker.proofs.Cases.{admit-cases}
+use Rattle.circuit.proofs.Holding.{holds}
 
 -- the ticket and the delay that an entry stands for, and the list of a granted state, which is as it was
 module _ (c : Config) where

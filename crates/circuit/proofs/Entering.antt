@@ -6,14 +6,14 @@ use native.Mathlib.Omega.{arith}
 use borrow.Author.Tests.{eq-eqb, ne-eqb, le-leb, lt-leb, lt-ltb, le-ltb}
 use Rattle.error.specs.Choice.{if_then_else_}
 use Rattle.trip.specs.declared.Config.{Config}
-use Rattle.circuit.specs.declared.Ticket.{Ticket}
-use Rattle.circuit.specs.declared.Breaker.{Breaker}
-use Rattle.circuit.specs.declared.Delay.{Delay}
+use Rattle.breaker.specs.declared.Ticket.{Ticket}
+use Rattle.breaker.specs.declared.Breaker.{Breaker}
+use Rattle.breaker.specs.declared.Delay.{Delay}
 use Rattle.circuit.specs.declared.Entry.{Entry}
 use Rattle.circuit.specs.declared.Entry.the-variants.{Granted, Shed}
-use Rattle.circuit.specs.Record.{State, settings, stored}
-use Rattle.circuit.specs.Answers.{delayOf}
-use Rattle.circuit.specs.Rules.{Admitted, granted, shed, admit, viaTrait, withCounts, halfOpening, noted}
+use Rattle.breaker.specs.Record.{State, settings, stored}
+use Rattle.breaker.specs.Answers.{delayOf}
+use Rattle.breaker.specs.Rules.{Admitted, granted, shed, admit, viaTrait, withCounts, halfOpening, noted}
 use Rattle.circuit.specs.Locked.{entry}
 
 abbrev ticket : ℕ → Bool → Ticket

@@ -21,15 +21,15 @@ use Rattle.history.proofs.Sound.{view-padded}
 use Rattle.history.proofs.Held.{outcome-held, time-held, time-full, evict-held, failures-le, failures-held}
 use Rattle.trip.specs.declared.Config.{Config}
 use Rattle.trip.specs.Policy.{Policy, Consecutive, Ratio, Windowed, policyOf, ratioReached, tripped}
-use Rattle.circuit.specs.declared.Ticket.{Ticket}
-use Rattle.circuit.specs.declared.Breaker.{Breaker}
-use Rattle.circuit.specs.Record.{Settings, State, HalfOpen, Closed, settings, stored, itemsOf, sound}
-use Rattle.circuit.specs.Rules.{Outcome, done, counting, withCounts, opening, closing, inHalfOpen, act, finish, settling, aborting, released, success, failure, abort, traitAbort}
-use Rattle.circuit.specs.Calls.{After, after, kept}
-use Rattle.circuit.specs.Orders.{nothing}
+use Rattle.breaker.specs.declared.Ticket.{Ticket}
+use Rattle.breaker.specs.declared.Breaker.{Breaker}
+use Rattle.breaker.specs.Record.{Settings, State, HalfOpen, Closed, settings, stored, itemsOf, sound}
+use Rattle.breaker.specs.Rules.{Outcome, done, counting, withCounts, opening, closing, inHalfOpen, act, finish, settling, aborting, released, success, failure, abort, traitAbort}
+use Rattle.breaker.specs.Calls.{After, after, kept}
+use Rattle.breaker.specs.Orders.{nothing}
 use Rattle.circuit.specs.Locked.{Holds, recording}
-use Rattle.circuit.proofs.Record.{sound→}
-use Rattle.circuit.proofs.Keeps.{SoundAt}
+use Rattle.breaker.proofs.Record.{sound→}
+use Rattle.breaker.proofs.Keeps.{SoundAt}
 
 -- ---- the policy and the list's kind, by the code's tests
 module _ (c : Config) where

@@ -16,14 +16,14 @@ use Rattle.history.specs.Items.{padded}
 use Rattle.history.specs.Change.{Left, left, held, refuse}
 use Rattle.trip.specs.declared.Config.{Config}
 use Rattle.trip.specs.Policy.{Policy, policyOf, tripped}
-use Rattle.circuit.specs.declared.Ticket.{Ticket}
-use Rattle.circuit.specs.declared.Breaker.{Breaker}
-use Rattle.circuit.specs.Record.{State, settings, stored, sound}
-use Rattle.circuit.specs.Rules.{done, probes, withCounts, withHistory, opening, closing, recorded, noRoom, inHalfOpen, inClosed, settling}
-use Rattle.circuit.specs.Calls.{after, kept}
-use Rattle.circuit.specs.Orders.{nothing}
+use Rattle.breaker.specs.declared.Ticket.{Ticket}
+use Rattle.breaker.specs.declared.Breaker.{Breaker}
+use Rattle.breaker.specs.Record.{State, settings, stored, sound}
+use Rattle.breaker.specs.Rules.{done, probes, withCounts, withHistory, opening, closing, recorded, noRoom, inHalfOpen, inClosed, settling}
+use Rattle.breaker.specs.Calls.{after, kept}
+use Rattle.breaker.specs.Orders.{nothing}
 use Rattle.circuit.specs.Locked.{Holds, recording}
-use Rattle.circuit.proofs.Keeps.{SoundAt, sound-history, sound-recorded}
+use Rattle.breaker.proofs.Keeps.{SoundAt, sound-history, sound-recorded}
 use Rattle.circuit.proofs.Finishing.{kept-done, at-state}
 
 -- ---- HalfOpen

@@ -19,11 +19,11 @@ use Rattle.trip.specs.declared.CircuitBreakerBuilder.{CircuitBreakerBuilder}
 use Rattle.trip.specs.Settings.{builtOf, builtTold}
 use Rattle.trip.specs.Policy.{policyOf, Consecutive, Windowed, boardFigure}
 use Rattle.trip.proofs.OneToOne.{built-one}
-use Rattle.circuit.specs.declared.Ticket.{Ticket}
-use Rattle.circuit.specs.declared.Breaker.{Breaker}
-use Rattle.circuit.specs.Record.{State, Closed, Open, settings, stored, state}
-use Rattle.circuit.specs.Rules.{stillAdmits, sheds, done}
-use Rattle.circuit.specs.Calls.{after, kept, fresh, put, built, figure, board}
+use Rattle.breaker.specs.declared.Ticket.{Ticket}
+use Rattle.breaker.specs.declared.Breaker.{Breaker}
+use Rattle.breaker.specs.Record.{State, Closed, Open, settings, stored, state}
+use Rattle.breaker.specs.Rules.{stillAdmits, sheds, done}
+use Rattle.breaker.specs.Calls.{after, kept, fresh, put, built, figure, board}
 use Rattle.circuit.proofs.Finishing.{is-ratio, is-windowed, is-consecutive}
 
 -- ---- still_admits

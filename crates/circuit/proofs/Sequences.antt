@@ -14,18 +14,18 @@ use Rattle.error.specs.Told.{Told, refused}
 use Rattle.error.specs.declared.Refusal.the-variants.{Storage, Unsound}
 use Rattle.history.specs.Items.{padded}
 use Rattle.trip.specs.declared.Config.{Config}
-use Rattle.circuit.specs.declared.Ticket.{Ticket}
-use Rattle.circuit.specs.declared.Breaker.{Breaker}
-use Rattle.circuit.specs.Record.{Settings, State, settings, state, stored, sound}
-use Rattle.circuit.specs.Rules.{Call, Outcome, done, finish, settling, aborting}
-use Rattle.circuit.specs.Calls.{After, after, kept}
-use Rattle.circuit.specs.Orders.{Ran, run, inTurn, nothing}
-use Rattle.circuit.specs.Batch.{Slices, callBy, callAt, callsTo, calls, Batch, batch, numbers, alike, finishedAll}
+use Rattle.breaker.specs.declared.Ticket.{Ticket}
+use Rattle.breaker.specs.declared.Breaker.{Breaker}
+use Rattle.breaker.specs.Record.{Settings, State, settings, state, stored, sound}
+use Rattle.breaker.specs.Rules.{Call, Outcome, done, finish, settling, aborting}
+use Rattle.breaker.specs.Calls.{After, after, kept}
+use Rattle.breaker.specs.Orders.{Ran, run, inTurn, nothing}
+use Rattle.breaker.specs.Batch.{Slices, callBy, callAt, callsTo, calls, Batch, batch, numbers, alike, finishedAll}
 use Rattle.circuit.specs.Locked.{Holds}
-use Rattle.circuit.proofs.Record.{sound-places}
-use Rattle.circuit.proofs.Keeps.{SoundAt, sound-run, sound-state}
-use Rattle.circuit.proofs.Orders.{run-nil, run-snoc}
-use Rattle.circuit.proofs.Guard.{holds}
+use Rattle.breaker.proofs.Record.{sound-places}
+use Rattle.breaker.proofs.Keeps.{SoundAt, sound-run, sound-state}
+use Rattle.breaker.proofs.Orders.{run-nil, run-snoc}
+use Rattle.circuit.proofs.Holding.{holds}
 
 -- ---- one call
 module _ (c : Config) (st : State) (reading : ℕ) (t : Ticket) (mark : Bool) (s : List ℕ) (b : Breaker) (h : Holds c st b s) where

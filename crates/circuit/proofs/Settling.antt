@@ -10,15 +10,15 @@ use borrow.Author.Tests.{eq-eqb, ne-eqb, lt-ltb, le-ltb}
 use Rattle.error.specs.Choice.{if_then_else_}
 use Rattle.history.specs.Items.{padded}
 use Rattle.trip.specs.declared.Config.{Config}
-use Rattle.circuit.specs.declared.Ticket.{Ticket}
-use Rattle.circuit.specs.declared.Breaker.{Breaker}
-use Rattle.circuit.specs.Record.{Settings, State, HalfOpen, Closed, settings, stored, sound}
-use Rattle.circuit.specs.Rules.{Outcome, done, Call, ticket, ticketOf, probes, counting, withCounts, inHalfOpen, inClosed, act, finish, settling, aborting, abort, traitAbort, released, manual}
-use Rattle.circuit.specs.Calls.{after, kept}
-use Rattle.circuit.specs.Orders.{nothing}
+use Rattle.breaker.specs.declared.Ticket.{Ticket}
+use Rattle.breaker.specs.declared.Breaker.{Breaker}
+use Rattle.breaker.specs.Record.{Settings, State, HalfOpen, Closed, settings, stored, sound}
+use Rattle.breaker.specs.Rules.{Outcome, done, Call, ticket, ticketOf, probes, counting, withCounts, inHalfOpen, inClosed, act, finish, settling, aborting, abort, traitAbort, released, manual}
+use Rattle.breaker.specs.Calls.{after, kept}
+use Rattle.breaker.specs.Orders.{nothing}
 use Rattle.circuit.specs.Locked.{Holds}
-use Rattle.circuit.proofs.Keeps.{SoundAt, sound-counts}
-use Rattle.circuit.proofs.Record.{sound→, shared→}
+use Rattle.breaker.proofs.Keeps.{SoundAt, sound-counts}
+use Rattle.breaker.proofs.Record.{sound→, shared→}
 use Rattle.circuit.proofs.Finishing.{kept-done, at-state}
 
 ticket-settling : (t : Ticket) (good : Bool) → ticket (settling t good) ≡ t

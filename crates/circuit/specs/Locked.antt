@@ -9,12 +9,12 @@ use Rattle.history.specs.Items.{padded}
 use Rattle.history.specs.Change.{Left, held, refuse}
 use Rattle.trip.specs.declared.Config.{Config}
 use Rattle.trip.specs.Policy.{Policy}
-use Rattle.circuit.specs.declared.Breaker.{Breaker}
+use Rattle.breaker.specs.declared.Breaker.{Breaker}
 use Rattle.circuit.specs.declared.Entry.{Entry}
 use Rattle.circuit.specs.declared.Entry.the-variants.{Granted, Shed}
-use Rattle.circuit.specs.Record.{State, stored}
-use Rattle.circuit.specs.Answers.{delayOf}
-use Rattle.circuit.specs.Rules.{Admitted, granted, shed, recorded, noRoom}
+use Rattle.breaker.specs.Record.{State, stored}
+use Rattle.breaker.specs.Answers.{delayOf}
+use Rattle.breaker.specs.Rules.{Admitted, granted, shed, recorded, noRoom}
 
 -- the record and its places store the state
 abbrev pub Holds : Config → State → Breaker → List ℕ → Type 0

@@ -1,16 +1,16 @@
 // Admission, once the breaker is tested.
 ghost use mathlib.Core.Path.{_≡_};
 ghost use Rattle.trip.specs.declared.Config.{Config};
-ghost use Rattle.circuit.specs.Record.{State, settings, stored};
-ghost use Rattle.circuit.specs.Rules.{admit, admitAs};
+ghost use Rattle.breaker.specs.Record.{State, settings, stored};
+ghost use Rattle.breaker.specs.Rules.{admit, admitAs};
 ghost use Rattle.circuit.specs.Locked.{entry};
-use crate::Breaker;
 use crate::Entry;
-use crate::Ticket;
 use crate::update::delayed;
 use crate::update::one_more;
 use crate::update::transition;
 use crate::update::with_counts;
+use breaker::Breaker;
+use breaker::Ticket;
 
 pub(crate) fn admit_locked(b: Breaker, now_ms: u64) -> Entry
     ensures { λ r. ⌜ ((c : Config) (st : State) → b ≡ stored c st → r ≡ entry c (admit (settings c) «now_ms» st)) ⌝ }

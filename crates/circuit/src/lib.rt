@@ -1,6 +1,6 @@
-// The breaker by value, over lent storage (circuit.rs of the Rust).
+// The calls of a breaker by value, over lent storage (circuit.rs of the Rust).
 ghost use mathlib.Core.Path.{_≡_};
-ghost use Rattle.circuit.specs.Record.{sound};
+ghost use Rattle.breaker.specs.Record.{sound};
 
 mod admit;
 mod batch;
@@ -12,6 +12,9 @@ mod sound;
 mod update;
 
 pub use batch::finish_all;
+use breaker::Breaker;
+use breaker::Delay;
+use breaker::Ticket;
 pub use calls::abort_as;
 pub use calls::admit_as;
 pub use calls::board;
@@ -22,7 +25,6 @@ pub use calls::reset;
 pub use calls::settle;
 pub use calls::still_admits;
 pub use calls::try_admit;
-use error::Refusal;
 pub use limiter::acquire_cost;
 pub use limiter::available;
 pub use limiter::charge;
@@ -36,130 +38,6 @@ pub use permits::permit_success;
 use sound::items_of;
 use sound::sound_policy;
 use sound::sound_shared;
-use trip::Config;
-
-// What calls change of a breaker, in document 01's order.
-#[repr(C)]
-pub struct Shared {
-    // 0 Closed, 1 HalfOpen, 2 Open
-    pub state: u8,
-    pub generation: u64,
-    // failures in a row
-    pub run: u32,
-    pub inflight: u32,
-    pub trait_probes: u32,
-    pub successes: u32,
-    pub open_until: u64,
-    // of the list in the storage
-    pub len: u32,
-}
-
-#[repr(C)]
-pub struct Breaker {
-    pub config: Config,
-    pub shared: Shared,
-}
-
-// An admission: the generation it was made under, and whether it holds a trial.
-#[repr(C)]
-pub struct Ticket {
-    pub generation: u64,
-    pub probe: bool,
-}
-
-pub struct Delay {
-    pub ms: u64,
-}
-
-// What an inner limiter replied (decision.rs of the Rust).
-pub enum Decision {
-    Acquired,
-    Retry(Delay),
-    Impossible,
-}
-
-// What an inner limiter replied to a reservation.
-pub enum Reservation {
-    Wait(Delay),
-    Nothing,
-}
-
-pub enum Admission {
-    Granted(Ticket),
-    Shed(Delay),
-    Refused(Refusal),
-}
-
-pub enum Finished {
-    Done,
-    Refused(Refusal),
-}
-
-pub enum Tried {
-    Granted(Ticket),
-    Shed(Delay),
-    Retry,
-    Impossible { cost: u32, capacity: u32 },
-    Refused(Refusal),
-}
-
-pub enum Standing {
-    Admits,
-    Shed(Delay),
-    Refused(Refusal),
-}
-
-// A notice to give so much back to the inner limiter.
-pub enum Notice {
-    Refund(u32),
-    Refused(Refusal),
-}
-
-pub enum Decided {
-    Is(Decision),
-    Refused(Refusal),
-}
-
-pub enum Reserved {
-    Is(Reservation),
-    Refused(Refusal),
-}
-
-pub enum Counted {
-    Count(u64),
-    Refused(Refusal),
-}
-
-// The answer of a call that finishes or forces, and the record after it.
-pub struct Settled {
-    pub answer: Finished,
-    pub breaker: Breaker,
-}
-
-pub struct Admitted {
-    pub answer: Admission,
-    pub breaker: Breaker,
-}
-
-pub struct TriedAdmission {
-    pub answer: Tried,
-    pub breaker: Breaker,
-}
-
-pub struct Noticed {
-    pub answer: Notice,
-    pub breaker: Breaker,
-}
-
-pub struct Acquisition {
-    pub answer: Decided,
-    pub breaker: Breaker,
-}
-
-pub struct Reserving {
-    pub answer: Reserved,
-    pub breaker: Breaker,
-}
 
 // An admission under test: its ticket and the record after it, or the delay.
 enum Entry {

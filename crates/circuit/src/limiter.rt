@@ -1,24 +1,24 @@
 // The trait side (limiter.rs of the Rust): the inner limiter's replies are handed in.
 ghost use mathlib.Core.Path.{_≡_};
-ghost use Rattle.circuit.specs.Answers.{noticeTold, decidedTold, reservedTold, countedTold};
-ghost use Rattle.circuit.specs.Calls as Calls;
-ghost use Rattle.circuit.specs.Calls.{after, onSound, asked};
-use crate::Acquisition;
-use crate::Breaker;
-use crate::Counted;
-use crate::Decided;
-use crate::Decision;
+ghost use Rattle.breaker.specs.Answers.{noticeTold, decidedTold, reservedTold, countedTold};
+ghost use Rattle.breaker.specs.Calls as Calls;
+ghost use Rattle.breaker.specs.Calls.{after, onSound, asked};
 use crate::Entry;
-use crate::Notice;
-use crate::Noticed;
-use crate::Reservation;
-use crate::Reserved;
-use crate::Reserving;
 use crate::admit::admit_as_locked;
 use crate::admit::admit_locked;
 use crate::is_sound;
 use crate::outcome::abort_locked;
 use crate::outcome::release_locked;
+use breaker::Acquisition;
+use breaker::Breaker;
+use breaker::Counted;
+use breaker::Decided;
+use breaker::Decision;
+use breaker::Notice;
+use breaker::Noticed;
+use breaker::Reservation;
+use breaker::Reserved;
+use breaker::Reserving;
 use error::Refusal;
 
 // The verdict without a transition, else the inner limiter's peek.

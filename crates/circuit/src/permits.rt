@@ -1,18 +1,18 @@
 // Permits: a ticket with what its call came to. Each is the call that the Rust's Permit makes.
 ghost use mathlib.Core.Path.{_≡_};
 ghost use mathlib.Core.Bool.{true, false};
-ghost use Rattle.circuit.specs.Answers.{finishedTold, noticeTold};
-ghost use Rattle.circuit.specs.Calls as Calls;
-ghost use Rattle.circuit.specs.Calls.{after, onSound};
-use crate::Breaker;
-use crate::Finished;
-use crate::Notice;
-use crate::Noticed;
-use crate::Settled;
-use crate::Ticket;
+ghost use Rattle.breaker.specs.Answers.{finishedTold, noticeTold};
+ghost use Rattle.breaker.specs.Calls as Calls;
+ghost use Rattle.breaker.specs.Calls.{after, onSound};
 use crate::is_sound;
 use crate::outcome::abort_locked;
 use crate::settle;
+use breaker::Breaker;
+use breaker::Finished;
+use breaker::Notice;
+use breaker::Noticed;
+use breaker::Settled;
+use breaker::Ticket;
 use error::Refusal;
 
 // Ruled out: a success counted as a failure; one that needs a probe.

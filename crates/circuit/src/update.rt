@@ -6,13 +6,13 @@ ghost use mathlib.Core.List.{List};
 ghost use Prim.Native.Nat.{ℕ, _+_, _-_, _^_, min};
 ghost use lib.ListN.{length};
 ghost use Rattle.trip.specs.declared.Config.{Config};
-ghost use Rattle.circuit.specs.Record.{State, settings, stored, sound};
-ghost use Rattle.circuit.specs.Answers.{delayOf};
-ghost use Rattle.circuit.specs.Rules.{next, withCounts, withHistory, moved, opening, closing};
+ghost use Rattle.breaker.specs.Record.{State, settings, stored, sound};
+ghost use Rattle.breaker.specs.Answers.{delayOf};
+ghost use Rattle.breaker.specs.Rules.{next, withCounts, withHistory, moved, opening, closing};
 ghost use Rattle.circuit.specs.Locked.{Holds};
-use crate::Breaker;
-use crate::Delay;
-use crate::Shared;
+use breaker::Breaker;
+use breaker::Delay;
+use breaker::Shared;
 
 pub(crate) fn with_counts(b: Breaker, inflight: u32, trait_probes: u32, successes: u32) -> Breaker
     ensures { λ r. ⌜ ((c : Config) (st : State) → b ≡ stored c st → r ≡ stored c (withCounts inflight «trait_probes» successes st)) ⌝ }

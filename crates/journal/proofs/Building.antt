@@ -19,11 +19,11 @@ use Rattle.trip.specs.declared.CircuitBreakerBuilder.{CircuitBreakerBuilder}
 use Rattle.trip.specs.declared.Trip.the-variants as Trip·is
 use Rattle.trip.specs.declared.Duration.{Duration}
 use Rattle.trip.specs.Settings.{oneRatio, clampedRatio, builtOf}
-use Rattle.circuit.specs.declared.Breaker.{Breaker}
-use Rattle.circuit.specs.Record.{State, state, stored, sound}
-use Rattle.circuit.specs.Calls.{After, after, fresh, put, built}
-use Rattle.circuit.proofs.Record.{state-stored}
-use Rattle.circuit.proofs.Built.{RatioFits, sound-built}
+use Rattle.breaker.specs.declared.Breaker.{Breaker}
+use Rattle.breaker.specs.Record.{State, state, stored, sound}
+use Rattle.breaker.specs.Calls.{After, after, fresh, put, built}
+use Rattle.breaker.proofs.Record.{state-stored}
+use Rattle.breaker.proofs.Built.{RatioFits, sound-built}
 use Rattle.lines.specs.declared.Header.{Header}
 use Rattle.lines.specs.declared.Header.the-variants.{Consecutive, Ratio, Windowed}
 use Rattle.journal.specs.Replay.{builderOf}

@@ -16,8 +16,8 @@ use Rattle.trip.specs.declared.Built.{Built}
 use Rattle.trip.specs.declared.Built.the-variants.{Made, Refused}
 use Rattle.trip.specs.declared.Config.{Config}
 use Rattle.trip.specs.Settings.{builtOf}
-use Rattle.circuit.specs.declared.Breaker.{Breaker}
-use Rattle.circuit.specs.Record.{Settings, State, settings}
+use Rattle.breaker.specs.declared.Breaker.{Breaker}
+use Rattle.breaker.specs.Record.{Settings, State, settings}
 use Rattle.lines.specs.declared.Call.{Call}
 use Rattle.lines.specs.declared.Header.{Header}
 use Rattle.lines.specs.Print.{printDecimal, decimalIn, printFields, printLine, printCall, readingOf, letterOf, fieldsOf, CallFits, printHeader, HeaderFits}

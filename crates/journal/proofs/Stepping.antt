@@ -8,12 +8,12 @@ use Rattle.error.specs.Told.{Told, tell, refused, numberOf}
 use Rattle.error.specs.declared.Refusal.{Refusal}
 use Rattle.error.specs.declared.Refusal.the-variants.{Time, Limit, Storage, Unsound, Full}
 use Rattle.trip.specs.declared.Config.{Config}
-use Rattle.circuit.specs.declared.Breaker.{Breaker}
-use Rattle.circuit.specs.Record.{State, settings, state, sound}
-use Rattle.circuit.specs.Rules.{settling, aborting}
-use Rattle.circuit.specs.Calls.{After, after, onSound}
-use Rattle.circuit.proofs.Keeps.{Keeps, sound-finish, sound-admission, sound-reset}
-use Rattle.circuit.proofs.Guard.{sound-called}
+use Rattle.breaker.specs.declared.Breaker.{Breaker}
+use Rattle.breaker.specs.Record.{State, settings, state, sound}
+use Rattle.breaker.specs.Rules.{settling, aborting}
+use Rattle.breaker.specs.Calls.{After, after, onSound}
+use Rattle.breaker.proofs.Keeps.{Keeps, sound-finish, sound-admission, sound-reset}
+use Rattle.breaker.proofs.Guard.{sound-called}
 use Rattle.lines.specs.declared.Call.{Call}
 use Rattle.lines.specs.declared.Call.the-variants.{Admit, Success, Failure, Abort, Reset}
 use Rattle.lines.specs.Print.{printLine}

@@ -16,10 +16,10 @@ use Rattle.trip.specs.declared.CircuitBreakerBuilder.{CircuitBreakerBuilder}
 use Rattle.trip.specs.declared.Config.{Config}
 use Rattle.trip.specs.declared.Trip.the-variants as Trip·is
 use Rattle.trip.specs.Settings.{builtOf, ofMillis}
-use Rattle.circuit.specs.declared.Ticket.{Ticket}
-use Rattle.circuit.specs.Record.{Settings, State, settings}
-use Rattle.circuit.specs.Rules.{Outcome, reset}
-use Rattle.circuit.specs.Calls.{fresh, admission, settle, abortAs}
+use Rattle.breaker.specs.declared.Ticket.{Ticket}
+use Rattle.breaker.specs.Record.{Settings, State, settings}
+use Rattle.breaker.specs.Rules.{Outcome, reset}
+use Rattle.breaker.specs.Calls.{fresh, admission, settle, abortAs}
 use Rattle.lines.specs.declared.Call.{Call}
 use Rattle.lines.specs.declared.Call.the-variants.{Admit, Success, Failure, Abort, Reset}
 use Rattle.lines.specs.declared.Header.{Header}

@@ -6,9 +6,9 @@ use mathlib.Core.List.{List, _∷_}
 use lib.ListN.{length, take, drop}
 use Rattle.error.specs.Told.{Told}
 use Rattle.history.specs.Items.{padded}
-use Rattle.circuit.specs.declared.Breaker.{Breaker}
-use Rattle.circuit.specs.Record.{State, settings, state}
-use Rattle.circuit.specs.Calls.{onSound}
+use Rattle.breaker.specs.declared.Breaker.{Breaker}
+use Rattle.breaker.specs.Record.{State, settings, state}
+use Rattle.breaker.specs.Calls.{onSound}
 use Rattle.lines.specs.declared.Call.{Call}
 use Rattle.lines.specs.Print.{printLine}
 use Rattle.journal.specs.declared.Answer.{Answer}

@@ -8,7 +8,7 @@ mod run;
 mod step;
 mod write;
 
-use circuit::Breaker;
+use breaker::Breaker;
 use error::Refusal;
 use run::replay_all;
 

@@ -1,16 +1,16 @@
 // One call of the journal, made on the breaker.
 ghost use mathlib.Core.Path.{_≡_};
 ghost use Rattle.error.specs.Told.{refused};
-ghost use Rattle.circuit.specs.Answers.{admissionTold, finishedTold};
+ghost use Rattle.breaker.specs.Answers.{admissionTold, finishedTold};
 ghost use Rattle.journal.specs.Steps.{Says, StepsTo};
 use crate::Answer;
 use crate::Stepped;
-use circuit::Admission;
-use circuit::Admitted;
-use circuit::Breaker;
-use circuit::Finished;
-use circuit::Settled;
-use circuit::Ticket;
+use breaker::Admission;
+use breaker::Admitted;
+use breaker::Breaker;
+use breaker::Finished;
+use breaker::Settled;
+use breaker::Ticket;
 use error::Refusal;
 use lines::Call;
 

@@ -3,13 +3,13 @@ ghost use mathlib.Core.Path.{_≡_};
 ghost use Prim.Native.Nat.{_+_, _*_, _≤_};
 ghost use mathlib.Core.List.{[]};
 ghost use lib.ListN.{length};
-ghost use Rattle.circuit.specs.Record.{state};
+ghost use Rattle.breaker.specs.Record.{state};
 ghost use Rattle.lines.specs.Print.{printDecimal, printFields, printLine};
 ghost use Rattle.journal.specs.Replay.{malformedLine};
 ghost use Rattle.journal.specs.Laid.{laid};
 ghost use Rattle.journal.specs.Steps.{lineBy};
 use crate::Answer;
-use circuit::Breaker;
+use breaker::Breaker;
 
 // n in decimal.
 fn write_decimal(out: &mut [u8], at: usize, n: u64) -> usize

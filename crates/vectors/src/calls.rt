@@ -2,11 +2,11 @@
 use crate::lines::Line;
 use crate::told;
 use crate::told::Told;
-use circuit::Breaker;
-use circuit::Decision;
-use circuit::Delay;
-use circuit::Reservation;
-use circuit::Ticket;
+use breaker::Breaker;
+use breaker::Decision;
+use breaker::Delay;
+use breaker::Reservation;
+use breaker::Ticket;
 
 // An answer and the record after it.
 pub(crate) struct Called {
@@ -97,7 +97,7 @@ fn admit_as(b: Breaker, list: &mut [u64], n: &Line) -> Called {
     }
 }
 
-fn finished(r: circuit::Settled) -> Called {
+fn finished(r: breaker::Settled) -> Called {
     let breaker = r.breaker;
     let a = r.answer;
     Called {
@@ -106,7 +106,7 @@ fn finished(r: circuit::Settled) -> Called {
     }
 }
 
-fn noticed(r: circuit::Noticed) -> Called {
+fn noticed(r: breaker::Noticed) -> Called {
     let breaker = r.breaker;
     let a = r.answer;
     Called {

@@ -3,7 +3,7 @@ ghost use mathlib.Core.Path.{_≡_};
 ghost use mathlib.Core.Bool.{true};
 ghost use Prim.Native.Nat.{ℕ, _+_, _<_};
 ghost use lib.ListN.{length, getD};
-use circuit::Shared;
+use breaker::Shared;
 use trip::Config;
 
 // The storage of a breaker, and what the sample expects in it.

@@ -10,8 +10,8 @@ use crate::compare::stands;
 use crate::lines::Line;
 use crate::settings;
 use crate::told;
-use circuit::Breaker;
-use circuit::Shared;
+use breaker::Breaker;
+use breaker::Shared;
 use trip::Config;
 
 // Our record, and what the sample expects beside the places.

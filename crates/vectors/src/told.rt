@@ -1,15 +1,15 @@
 // Answers as document 01 tells them: a number and its values, 0 where there is none.
-use circuit::Admission;
-use circuit::Counted;
-use circuit::Decided;
-use circuit::Decision;
-use circuit::Finished;
-use circuit::Notice;
-use circuit::Reservation;
-use circuit::Reserved;
-use circuit::Standing;
-use circuit::Ticket;
-use circuit::Tried;
+use breaker::Admission;
+use breaker::Counted;
+use breaker::Decided;
+use breaker::Decision;
+use breaker::Finished;
+use breaker::Notice;
+use breaker::Reservation;
+use breaker::Reserved;
+use breaker::Standing;
+use breaker::Ticket;
+use breaker::Tried;
 use error::Refusal;
 
 // The number and three values.

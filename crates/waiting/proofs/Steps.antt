@@ -11,17 +11,17 @@ use Rattle.error.specs.Told.{Told, tell, refused}
 use Rattle.error.specs.declared.Refusal.{Refusal}
 use Rattle.error.specs.declared.Refusal.the-variants.{Time, Storage, Unsound}
 use Rattle.error.proofs.OneToOne.{at, no-refusal, no-shed}
-use Rattle.circuit.specs.declared.Breaker.{Breaker}
-use Rattle.circuit.specs.declared.Ticket.{Ticket}
-use Rattle.circuit.specs.declared.Delay.{Delay}
-use Rattle.circuit.specs.Record.{State, Closed, Open, settings, state, stored, sound}
-use Rattle.circuit.specs.Answers.{ticketValues, delayValues}
-use Rattle.circuit.specs.Rules.{Outcome, outcome, Admitted, granted, shed, admit, viaTrait, done, sheds, stillAdmits}
-use Rattle.circuit.specs.Calls as Breaker·calls
-use Rattle.circuit.specs.Calls.{kept, answered, admission, abortAs, onSound, asked, guarded}
-use Rattle.circuit.proofs.Record.{stored-state, padded-state}
-use Rattle.circuit.proofs.Guard.{guarded-storage, guarded-refused, guarded-done, sound-done, asked-done}
-use Rattle.circuit.proofs.OneToOne.{ticketIn, ticket-back}
+use Rattle.breaker.specs.declared.Breaker.{Breaker}
+use Rattle.breaker.specs.declared.Ticket.{Ticket}
+use Rattle.breaker.specs.declared.Delay.{Delay}
+use Rattle.breaker.specs.Record.{State, Closed, Open, settings, state, stored, sound}
+use Rattle.breaker.specs.Answers.{ticketValues, delayValues}
+use Rattle.breaker.specs.Rules.{Outcome, outcome, Admitted, granted, shed, admit, viaTrait, done, sheds, stillAdmits}
+use Rattle.breaker.specs.Calls as Breaker·calls
+use Rattle.breaker.specs.Calls.{kept, answered, admission, abortAs, onSound, asked, guarded}
+use Rattle.breaker.proofs.Record.{stored-state, padded-state}
+use Rattle.breaker.proofs.Guard.{guarded-storage, guarded-refused, guarded-done, sound-done, asked-done}
+use Rattle.breaker.proofs.OneToOne.{ticketIn, ticket-back}
 use Rattle.wait.specs.declared.Wait.{Wait}
 use Rattle.wait.specs.declared.Observed.{Observed}
 use Rattle.wait.specs.declared.Act.{Act}

@@ -2,7 +2,7 @@
 use Prim.Native.Nat.{ℕ}
 use mathlib.Core.List.{List, [], _∷_, _++_}
 use Rattle.error.specs.Told.{Told, tell, refused}
-use Rattle.circuit.specs.Answers.{ticketValues, delayValues}
+use Rattle.breaker.specs.Answers.{ticketValues, delayValues}
 use Rattle.wait.specs.Answers.{actValues}
 use Rattle.waiting.specs.declared.Begun.{Begun}
 use Rattle.waiting.specs.declared.Begun.the-variants as Begun·is

@@ -8,12 +8,12 @@ use Rattle.error.specs.Choice.{if_then_else_}
 use Rattle.error.specs.Told.{Told, tell, refused}
 use Rattle.error.specs.declared.Refusal.{Refusal}
 use Rattle.error.specs.declared.Refusal.the-variants.{Time, Storage}
-use Rattle.circuit.specs.declared.Breaker.{Breaker}
-use Rattle.circuit.specs.declared.Ticket.{Ticket}
-use Rattle.circuit.specs.Record.{settings, state}
-use Rattle.circuit.specs.Rules.{Outcome, Admitted, granted, shed, admit, done, sheds}
-use Rattle.circuit.specs.Calls as Breaker·calls
-use Rattle.circuit.specs.Calls.{guarded, kept}
+use Rattle.breaker.specs.declared.Breaker.{Breaker}
+use Rattle.breaker.specs.declared.Ticket.{Ticket}
+use Rattle.breaker.specs.Record.{settings, state}
+use Rattle.breaker.specs.Rules.{Outcome, Admitted, granted, shed, admit, done, sheds}
+use Rattle.breaker.specs.Calls as Breaker·calls
+use Rattle.breaker.specs.Calls.{guarded, kept}
 use Rattle.wait.specs.declared.Wait.{Wait}
 use Rattle.wait.specs.declared.Observed.{Observed}
 use Rattle.wait.specs.declared.Ending.{Ending}

@@ -5,11 +5,11 @@ use mathlib.Core.List.{List, [], _∷_, _++_}
 use lib.Dec.{eqb}
 use Rattle.error.specs.Choice.{if_then_else_}
 use Rattle.error.specs.Told.{Told, tell}
-use Rattle.circuit.specs.declared.Ticket.{Ticket}
-use Rattle.circuit.specs.Answers.{ticketValues}
-use Rattle.circuit.specs.Record.{Settings, State}
-use Rattle.circuit.specs.Rules.{Outcome, outcome, stillAdmits}
-use Rattle.circuit.specs.Calls.{abortAs}
+use Rattle.breaker.specs.declared.Ticket.{Ticket}
+use Rattle.breaker.specs.Answers.{ticketValues}
+use Rattle.breaker.specs.Record.{Settings, State}
+use Rattle.breaker.specs.Rules.{Outcome, outcome, stillAdmits}
+use Rattle.breaker.specs.Calls.{abortAs}
 use Rattle.wait.specs.declared.Ending.{Ending}
 use Rattle.wait.specs.declared.Ending.the-variants.{Done, Deadline, Never}
 

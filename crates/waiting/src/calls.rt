@@ -1,9 +1,9 @@
 // The calls of a wait before a breaker. Each tests storage and soundness first, then the wait; a refused one leaves the breaker as it was.
 ghost use mathlib.Core.Path.{_≡_};
 ghost use mathlib.Core.Bool.{true};
-ghost use Rattle.circuit.specs.Record.{settings, state, sound};
-ghost use Rattle.circuit.specs.Calls as Breaker·calls;
-ghost use Rattle.circuit.specs.Calls.{kept};
+ghost use Rattle.breaker.specs.Record.{settings, state, sound};
+ghost use Rattle.breaker.specs.Calls as Breaker·calls;
+ghost use Rattle.breaker.specs.Calls.{kept};
 ghost use Rattle.wait.specs.Answers.{droppedTold};
 ghost use Rattle.waiting.specs.Answers.{begunTold, completedTold, awaitedTold, courseTold};
 ghost use Rattle.waiting.specs.Rules.{aborting, completes};
@@ -21,10 +21,10 @@ use crate::Leaving;
 use crate::Pending;
 use crate::Running;
 use crate::Waited;
-use circuit::Admission;
-use circuit::Breaker;
-use circuit::Standing;
-use circuit::Ticket;
+use breaker::Admission;
+use breaker::Breaker;
+use breaker::Standing;
+use breaker::Ticket;
 use circuit::abort_as;
 use circuit::admit_as;
 use circuit::is_sound;

@@ -1,13 +1,13 @@
 // A wait before a breaker (`admit_waiting` and `SlotGuard` of circuit.rs): admission, turns, completion, drop.
 mod calls;
 
+use breaker::Breaker;
+use breaker::Delay;
+use breaker::Ticket;
 pub use calls::drop_pending;
 pub use calls::run;
 pub use calls::start;
 pub use calls::turn;
-use circuit::Breaker;
-use circuit::Delay;
-use circuit::Ticket;
 use error::Refusal;
 use wait::Act;
 use wait::Dropped;

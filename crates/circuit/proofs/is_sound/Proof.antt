@@ -4,7 +4,7 @@ use borrow.Author.Needs.{needs}
 use borrow.Author.Tests.{le-leb, lt-leb, not-true, not-false}
 use Rattle.history.specs.declared.Items.{Items}
 use Rattle.history.specs.Items.{soundList}
-use Rattle.circuit.specs.Record.{soundConfig, sound}
+use Rattle.breaker.specs.Record.{soundConfig, sound}
 use Rattle.circuit.proofs.Tests.{sound-last}
 use Rattle.circuit.proofs.is_sound.Statement.{statement}
 use Rattle.circuit.proofs.is_sound.Tie as tie

@@ -1,9 +1,9 @@
 -- `capi::steps::available_step` meets its contract: 11 for an unknown reply, else circuit's answer packed. Assumes nothing.
 use mathlib.Core.Path.{sym, ap, _∙_}
 use borrow.Author.Tests.{not-true, not-false}
-use Rattle.circuit.specs.declared.Decision.{Decision}
-use Rattle.circuit.specs.Calls as Calls
-use Rattle.circuit.specs.Calls.{asked}
+use Rattle.breaker.specs.declared.Decision.{Decision}
+use Rattle.breaker.specs.Calls as Calls
+use Rattle.breaker.specs.Calls.{asked}
 use Rattle.capi.specs.Crossing.{packed}
 use Rattle.capi.proofs.Cross.{known-asked, unknown-asked}
 use borrow.Author.Needs.{needs}

@@ -2,7 +2,7 @@
 use mathlib.Core.Path.{sym, ap, _∙_}
 use borrow.Author.Tests.{not-true, not-false}
 use Rattle.trip.specs.declared.CircuitBreakerBuilder.{CircuitBreakerBuilder}
-use Rattle.circuit.specs.Calls.{built}
+use Rattle.breaker.specs.Calls.{built}
 use Rattle.capi.proofs.Cross.{cross, known-built, storage-built, unknown-built}
 use borrow.Author.Needs.{needs}
 use Rattle.capi.proofs.steps.build_step.Statement.{statement}

@@ -1,9 +1,9 @@
 -- `capi::steps::try_admit_step` meets its contract: 11 for an unknown reply, else circuit's step, and its answer packed. Assumes nothing.
 use mathlib.Core.Path.{sym, ap, _∙_}
 use borrow.Author.Tests.{not-true, not-false}
-use Rattle.circuit.specs.declared.Decision.{Decision}
-use Rattle.circuit.specs.Calls as Calls
-use Rattle.circuit.specs.Calls.{onSound}
+use Rattle.breaker.specs.declared.Decision.{Decision}
+use Rattle.breaker.specs.Calls as Calls
+use Rattle.breaker.specs.Calls.{onSound}
 use Rattle.capi.proofs.Cross.{cross, known-reply, unknown-reply}
 use borrow.Author.Needs.{needs}
 use Rattle.capi.proofs.steps.try_admit_step.Statement.{statement}

@@ -6,8 +6,8 @@ use borrow.Author.Needs.{needs}
 use borrow.Author.Tests.{not-true, not-false}
 use Rattle.trip.specs.declared.Config.{Config}
 use Rattle.circuit.specs.declared.Entry.the-variants.{Granted}
-use Rattle.circuit.specs.Record.{State, settings, stored}
-use Rattle.circuit.specs.Rules.{admit, viaTrait, withCounts}
+use Rattle.breaker.specs.Record.{State, settings, stored}
+use Rattle.breaker.specs.Rules.{admit, viaTrait, withCounts}
 use Rattle.circuit.specs.Locked.{entry}
 use Rattle.circuit.proofs.Entering.{via-shed, via-plain, via-bare, via-probe}
 use Rattle.circuit.proofs.admit.admit_as_locked.Statement.{statement}

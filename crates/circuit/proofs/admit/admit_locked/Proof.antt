@@ -1,11 +1,11 @@
 -- `circuit::admit::admit_locked` meets its contract: each answer from the tests on its way. Assumes nothing.
 use mathlib.Core.Path.{_≡_, refl, sym, ap, _∙_}
 use borrow.Author.Needs.{needs}
-use Rattle.circuit.specs.declared.Breaker.{Breaker}
-use Rattle.circuit.specs.declared.Delay.{Delay}
+use Rattle.breaker.specs.declared.Breaker.{Breaker}
+use Rattle.breaker.specs.declared.Delay.{Delay}
 use Rattle.circuit.specs.declared.Entry.the-variants.{Shed}
-use Rattle.circuit.specs.Record.{stored}
-use Rattle.circuit.specs.Rules.{moved, withCounts}
+use Rattle.breaker.specs.Record.{stored}
+use Rattle.breaker.specs.Rules.{moved, withCounts}
 use Rattle.circuit.proofs.Entering.{enter-closed, enter-early, enter-half, enter-trial, enter-full}
 use Rattle.circuit.proofs.admit.admit_locked.Statement.{statement}
 use Rattle.circuit.proofs.admit.admit_locked.Tie as tie

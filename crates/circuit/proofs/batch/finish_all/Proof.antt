@@ -4,9 +4,9 @@ use mathlib.Core.Path.{_≡_, refl, sym, ap, _∙_}
 use mathlib.Core.Bool.{true, false}
 use borrow.Author.Needs.{needs}
 use borrow.Author.Tests.{eq-eqb, ne-eqb, not-true, not-false}
-use Rattle.circuit.specs.Record.{sound}
-use Rattle.circuit.specs.Batch.{slices, alike}
-use Rattle.circuit.proofs.Orders.{finishing-orders}
+use Rattle.breaker.specs.Record.{sound}
+use Rattle.breaker.specs.Batch.{slices, alike}
+use Rattle.breaker.proofs.Orders.{finishing-orders}
 use Rattle.circuit.proofs.Sequences.{batch-unlike, batch-storage, batch-refused, batch-done}
 use Rattle.circuit.proofs.batch.finish_all.Statement.{statement}
 use Rattle.circuit.proofs.batch.finish_all.Tie as tie

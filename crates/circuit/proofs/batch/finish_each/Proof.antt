@@ -5,8 +5,8 @@ use mathlib.Core.Path.{_≡_, refl, sym, ap, _∙_}
 use native.Mathlib.Omega.{arith}
 use borrow.Author.Needs.{needs}
 use lib.ListN.{length, length-set}
-use Rattle.circuit.specs.Answers.{finishedTold}
-use Rattle.circuit.specs.Batch.{slices}
+use Rattle.breaker.specs.Answers.{finishedTold}
+use Rattle.breaker.specs.Batch.{slices}
 use Rattle.circuit.proofs.Sequences.{soFar, Turn, turn-first, turn-sound, turn-more, turn-last}
 use Rattle.circuit.proofs.batch.finish_each.Statement.{statement}
 use Rattle.circuit.proofs.batch.finish_each.Tie as tie

@@ -3,17 +3,18 @@ use mathlib.Core.Path.{_≡_, refl, sym, ap, _∙_}
 use mathlib.Core.Bool.{true}
 use borrow.Author.Needs.{needs}
 use borrow.Author.Tests.{not-true, not-false}
-use Rattle.circuit.specs.Record.{state, sound}
-use Rattle.circuit.specs.Calls as Calls
-use Rattle.circuit.specs.Rules as Rules
+use Rattle.breaker.specs.Record.{state, sound}
+use Rattle.breaker.specs.Calls as Calls
+use Rattle.breaker.specs.Rules as Rules
 use Prim.Native.Nat.{ℕ, _≤_}
 use mathlib.Core.List.{[], _∷_}
 use native.Mathlib.Omega.{arith}
 use Rattle.error.specs.Told.{tell}
-use Rattle.circuit.specs.declared.Breaker.{Breaker}
+use Rattle.breaker.specs.declared.Breaker.{Breaker}
 use Rattle.circuit.proofs.Finishing.{failures-counted}
 use Rattle.circuit.proofs.Queries.{board-none, board-ratio}
-use Rattle.circuit.proofs.Guard.{holds, asked-storage, asked-refused, asked-done}
+use Rattle.breaker.proofs.Guard.{asked-storage, asked-refused, asked-done}
+use Rattle.circuit.proofs.Holding.{holds}
 use Rattle.circuit.proofs.calls.board.Statement.{statement}
 use Rattle.circuit.proofs.calls.board.Tie as tie
 

@@ -3,14 +3,15 @@ use mathlib.Core.Path.{_≡_, refl, sym, ap, _∙_}
 use mathlib.Core.Bool.{true}
 use borrow.Author.Needs.{needs}
 use borrow.Author.Tests.{not-true, not-false}
-use Rattle.circuit.specs.Record.{state, sound}
-use Rattle.circuit.specs.Calls as Calls
-use Rattle.circuit.specs.Rules as Rules
+use Rattle.breaker.specs.Record.{state, sound}
+use Rattle.breaker.specs.Calls as Calls
+use Rattle.breaker.specs.Rules as Rules
 use Rattle.error.specs.Told.{Told, tell}
-use Rattle.circuit.specs.declared.Delay.{Delay}
-use Rattle.circuit.specs.Answers.{delayOf, delayValues}
+use Rattle.breaker.specs.declared.Delay.{Delay}
+use Rattle.breaker.specs.Answers.{delayOf, delayValues}
 use Rattle.circuit.proofs.Queries.{still-same, still-closed, still-open, still-half}
-use Rattle.circuit.proofs.Guard.{holds, asked-storage, asked-refused, asked-done}
+use Rattle.breaker.proofs.Guard.{asked-storage, asked-refused, asked-done}
+use Rattle.circuit.proofs.Holding.{holds}
 use Rattle.circuit.proofs.calls.still_admits.Statement.{statement}
 use Rattle.circuit.proofs.calls.still_admits.Tie as tie
 

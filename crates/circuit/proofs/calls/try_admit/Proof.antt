@@ -3,15 +3,16 @@ use mathlib.Core.Path.{_≡_, refl, sym, ap, _∙_}
 use mathlib.Core.Bool.{true}
 use borrow.Author.Needs.{needs}
 use borrow.Author.Tests.{not-true, not-false}
-use Rattle.circuit.specs.Record.{state, sound}
-use Rattle.circuit.specs.Calls as Calls
-use Rattle.circuit.specs.Rules as Rules
+use Rattle.breaker.specs.Record.{state, sound}
+use Rattle.breaker.specs.Calls as Calls
+use Rattle.breaker.specs.Rules as Rules
 use mathlib.Core.List.{[], _∷_}
 use Rattle.error.specs.Told.{Told, tell}
-use Rattle.circuit.specs.declared.Decision.{Decision}
-use Rattle.circuit.specs.Record.{settings}
+use Rattle.breaker.specs.declared.Decision.{Decision}
+use Rattle.breaker.specs.Record.{settings}
 use Rattle.circuit.proofs.Admitting.{tried-shed, tried-granted, tried-back}
-use Rattle.circuit.proofs.Guard.{holds, sound-storage, sound-refused, sound-done, sound-fields}
+use Rattle.breaker.proofs.Guard.{sound-storage, sound-refused, sound-done, sound-fields}
+use Rattle.circuit.proofs.Holding.{holds}
 use Rattle.circuit.proofs.calls.try_admit.Statement.{statement}
 use Rattle.circuit.proofs.calls.try_admit.Tie as tie
 

@@ -3,12 +3,13 @@ use mathlib.Core.Path.{_≡_, refl, sym, ap, _∙_}
 use mathlib.Core.Bool.{true}
 use borrow.Author.Needs.{needs}
 use borrow.Author.Tests.{not-true, not-false}
-use Rattle.circuit.specs.Record.{state, sound}
-use Rattle.circuit.specs.Calls as Calls
-use Rattle.circuit.specs.Rules as Rules
-use Rattle.circuit.specs.declared.Decision.{Decision}
+use Rattle.breaker.specs.Record.{state, sound}
+use Rattle.breaker.specs.Calls as Calls
+use Rattle.breaker.specs.Rules as Rules
+use Rattle.breaker.specs.declared.Decision.{Decision}
 use Rattle.circuit.proofs.Admitting.{counted-shed, counted-granted}
-use Rattle.circuit.proofs.Guard.{holds, asked-storage, asked-refused, asked-done}
+use Rattle.breaker.proofs.Guard.{asked-storage, asked-refused, asked-done}
+use Rattle.circuit.proofs.Holding.{holds}
 use Rattle.circuit.proofs.limiter.available.Statement.{statement}
 use Rattle.circuit.proofs.limiter.available.Tie as tie
 

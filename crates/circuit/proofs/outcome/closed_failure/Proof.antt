@@ -8,10 +8,10 @@ use Rattle.history.specs.declared.Changed.{Changed}
 use Rattle.history.specs.Change.{left, told}
 use Rattle.trip.specs.declared.Config.{Config}
 use Rattle.trip.specs.Policy.{policyOf}
-use Rattle.circuit.specs.Record.{State, state}
+use Rattle.breaker.specs.Record.{State, state}
 use Rattle.circuit.specs.Locked.{Holds, recording}
-use Rattle.circuit.proofs.Record.{stored-state, padded-state}
-use Rattle.circuit.proofs.Keeps.{sound-state}
+use Rattle.breaker.proofs.Record.{stored-state, padded-state}
+use Rattle.breaker.proofs.Keeps.{sound-state}
 use Rattle.circuit.proofs.Outcomes.{counted, failure-refused, failure-held, failure-sound, failure-trips, failure-stays}
 use Rattle.circuit.proofs.outcome.closed_failure.Statement.{statement}
 use Rattle.circuit.proofs.outcome.closed_failure.Tie as tie

@@ -1,9 +1,9 @@
 -- `circuit::outcome::manual_locked` meets its contract: a settle, with a trait probe used up where there is one. Assumes nothing.
 use mathlib.Core.Path.{_≡_, refl, sym, ap, _∙_}
 use borrow.Author.Needs.{needs}
-use Rattle.circuit.specs.Record.{state}
+use Rattle.breaker.specs.Record.{state}
 use Rattle.circuit.specs.Locked.{Holds}
-use Rattle.circuit.proofs.Record.{stored-state, padded-state}
+use Rattle.breaker.proofs.Record.{stored-state, padded-state}
 use Rattle.circuit.proofs.Settling.{manual-off, manual-none, manual-one, used, used-sound}
 use Rattle.circuit.proofs.outcome.manual_locked.Statement.{statement}
 use Rattle.circuit.proofs.outcome.manual_locked.Tie as tie

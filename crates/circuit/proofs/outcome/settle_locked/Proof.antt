@@ -2,9 +2,9 @@
 use mathlib.Core.Path.{_≡_, refl, sym, ap, _∙_}
 use mathlib.Core.Bool.{Bool}
 use borrow.Author.Needs.{needs}
-use Rattle.circuit.specs.Record.{settings}
-use Rattle.circuit.specs.Rules.{inClosed, settling}
-use Rattle.circuit.specs.Calls.{kept}
+use Rattle.breaker.specs.Record.{settings}
+use Rattle.breaker.specs.Rules.{inClosed, settling}
+use Rattle.breaker.specs.Calls.{kept}
 use Rattle.circuit.proofs.Settling.{settle-stale, settle-half, settle-open, settle-closed}
 use Rattle.circuit.proofs.outcome.settle_locked.Statement.{statement}
 use Rattle.circuit.proofs.outcome.settle_locked.Tie as tie

@@ -5,8 +5,8 @@ use native.Mathlib.Omega.{arith}
 use borrow.Author.Needs.{needs}
 use lib.Dec.{leb}
 use Rattle.history.specs.Items.{view, recent}
-use Rattle.circuit.specs.Record.{state}
-use Rattle.circuit.proofs.Record.{stored-state, padded-state}
+use Rattle.breaker.specs.Record.{state}
+use Rattle.breaker.proofs.Record.{stored-state, padded-state}
 use Rattle.circuit.proofs.Finishing.{trips-run, failures-counted, trips-ratio, trips-times}
 use Rattle.circuit.proofs.outcome.trips.Statement.{statement}
 use Rattle.circuit.proofs.outcome.trips.Tie as tie

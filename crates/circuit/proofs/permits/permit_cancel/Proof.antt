@@ -3,14 +3,15 @@ use mathlib.Core.Path.{_≡_, refl, sym, ap, _∙_}
 use mathlib.Core.Bool.{true}
 use borrow.Author.Needs.{needs}
 use borrow.Author.Tests.{not-true, not-false}
-use Rattle.circuit.specs.Record.{state, sound}
-use Rattle.circuit.specs.Calls as Calls
-use Rattle.circuit.specs.Rules as Rules
+use Rattle.breaker.specs.Record.{state, sound}
+use Rattle.breaker.specs.Calls as Calls
+use Rattle.breaker.specs.Rules as Rules
 use Prim.Native.Nat.{ℕ}
 use mathlib.Core.List.{[], _∷_}
 use Rattle.error.specs.Told.{tell}
-use Rattle.circuit.specs.Calls.{After}
-use Rattle.circuit.proofs.Guard.{holds, sound-storage, sound-refused, sound-done, sound-fields}
+use Rattle.breaker.specs.Calls.{After}
+use Rattle.breaker.proofs.Guard.{sound-storage, sound-refused, sound-done, sound-fields}
+use Rattle.circuit.proofs.Holding.{holds}
 use Rattle.circuit.proofs.permits.permit_cancel.Statement.{statement}
 use Rattle.circuit.proofs.permits.permit_cancel.Tie as tie
 

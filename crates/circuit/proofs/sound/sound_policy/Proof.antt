@@ -2,7 +2,7 @@
 use mathlib.Core.Path.{_≡_, refl, sym, ap, _∙_}
 use borrow.Author.Needs.{needs}
 use borrow.Author.Tests.{eq-eqb, ne-eqb, le-leb, lt-leb, lt-ltb, le-ltb, not-true, not-false}
-use Rattle.circuit.specs.Record.{soundPolicy}
+use Rattle.breaker.specs.Record.{soundPolicy}
 use Rattle.circuit.proofs.Tests.{consecutive-last, ratio-last, windowed-last}
 use Rattle.circuit.proofs.sound.sound_policy.Statement.{statement}
 use Rattle.circuit.proofs.sound.sound_policy.Tie as tie

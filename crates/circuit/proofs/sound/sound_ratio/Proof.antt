@@ -5,7 +5,7 @@ use borrow.Author.Tests.{eq-eqb, ne-eqb, le-leb, lt-leb, lt-ltb, le-ltb, not-tru
 use lib.Ieee.{binary64}
 use lib.Ieee.Bits.{nanBits-above}
 use Rattle.trip.proofs.Floats.{no-nan}
-use Rattle.circuit.proofs.Record.{zero-is, one-is}
+use Rattle.breaker.proofs.Record.{zero-is, one-is}
 use Rattle.circuit.proofs.sound.sound_ratio.Statement.{statement}
 use Rattle.circuit.proofs.sound.sound_ratio.Tie as tie
 

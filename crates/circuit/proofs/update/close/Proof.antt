@@ -4,10 +4,10 @@ use mathlib.Core.List.{[]}
 use borrow.Author.Needs.{needs}
 use Rattle.history.specs.Change.{Left}
 use Rattle.history.proofs.Held.{clear-held}
-use Rattle.circuit.specs.declared.Breaker.{Breaker}
-use Rattle.circuit.specs.Record.{itemsOf, stored}
-use Rattle.circuit.specs.Rules.{moved, withCounts, withHistory}
-use Rattle.circuit.proofs.Record.{sound→}
+use Rattle.breaker.specs.declared.Breaker.{Breaker}
+use Rattle.breaker.specs.Record.{itemsOf, stored}
+use Rattle.breaker.specs.Rules.{moved, withCounts, withHistory}
+use Rattle.breaker.proofs.Record.{sound→}
 use Rattle.circuit.proofs.update.close.Statement.{statement}
 use Rattle.circuit.proofs.update.close.Tie as tie
 

@@ -2,9 +2,9 @@
 use Prim.Native.Nat.{ℕ, _+_, _-_, _^_, min}
 use mathlib.Core.Path.{_≡_, refl, sym, ap, _∙_}
 use borrow.Author.Needs.{needs}
-use Rattle.circuit.specs.declared.Breaker.{Breaker}
-use Rattle.circuit.specs.Record.{stored}
-use Rattle.circuit.specs.Rules.{moved, withCounts}
+use Rattle.breaker.specs.declared.Breaker.{Breaker}
+use Rattle.breaker.specs.Record.{stored}
+use Rattle.breaker.specs.Rules.{moved, withCounts}
 use Rattle.circuit.proofs.update.opened.Statement.{statement}
 use Rattle.circuit.proofs.update.opened.Tie as tie
 

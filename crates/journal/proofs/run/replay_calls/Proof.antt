@@ -6,8 +6,8 @@ use mathlib.Core.List.{List, [], _++_, append-nil}
 use native.Mathlib.Omega.{arith}
 use borrow.Author.Needs.{needs}
 use lib.ListN.{length, take, drop, length-drop, drop-of-length-le}
-use Rattle.circuit.specs.Record.{settings, state, sound}
-use Rattle.circuit.proofs.Record.{padded-state}
+use Rattle.breaker.specs.Record.{settings, state, sound}
+use Rattle.breaker.proofs.Record.{padded-state}
 use Rattle.lines.specs.Print.{printCall, CallFits}
 use Rattle.journal.specs.Replay.{called, malformedLine, Replays, finished, malformed}
 use Rattle.journal.specs.Steps.{lineBy, Says}

@@ -1,6 +1,6 @@
 -- `journal::step::step` meets its contract: each call is its entry point's. Assumes nothing.
 use borrow.Author.Needs.{needs}
-use Rattle.circuit.specs.Answers.{admissionTold, finishedTold}
+use Rattle.breaker.specs.Answers.{admissionTold, finishedTold}
 use Rattle.lines.specs.declared.Call.the-variants.{Admit, Success, Failure, Abort, Reset}
 use Rattle.journal.proofs.Stepping.{step-of}
 use Rattle.journal.proofs.step.step.Statement.{statement}

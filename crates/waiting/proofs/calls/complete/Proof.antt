@@ -2,10 +2,10 @@
 use mathlib.Core.Path.{_≡_, refl, sym, ap, _∙_}
 use borrow.Author.Needs.{needs}
 use borrow.Author.Tests.{not-true, not-false}
-use Rattle.circuit.specs.declared.Standing.{Standing}
-use Rattle.circuit.specs.Record.{settings, state}
-use Rattle.circuit.specs.Answers.{standingTold}
-use Rattle.circuit.specs.Calls.{kept}
+use Rattle.breaker.specs.declared.Standing.{Standing}
+use Rattle.breaker.specs.Record.{settings, state}
+use Rattle.breaker.specs.Answers.{standingTold}
+use Rattle.breaker.specs.Calls.{kept}
 use Rattle.wait.specs.declared.Ending.{Ending}
 use Rattle.waiting.specs.Rules.{completes}
 use Rattle.waiting.proofs.Steps.{verdict, still-admits, sheds-now, no-verdict}

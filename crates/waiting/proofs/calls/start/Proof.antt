@@ -3,9 +3,9 @@ use mathlib.Core.Path.{_≡_, refl, sym, ap, _∙_}
 use borrow.Author.Needs.{needs}
 use borrow.Author.Tests.{not-true, not-false}
 use Rattle.waiting.proofs.Steps.{start-storage, start-unsound, start-time, start-granted, start-shed, start-refused}
-use Rattle.circuit.specs.declared.Admission.{Admission}
-use Rattle.circuit.specs.Answers.{admissionTold}
-use Rattle.circuit.specs.Calls.{after}
+use Rattle.breaker.specs.declared.Admission.{Admission}
+use Rattle.breaker.specs.Answers.{admissionTold}
+use Rattle.breaker.specs.Calls.{after}
 use Rattle.wait.specs.Answers.{startedTold}
 use Rattle.waiting.proofs.calls.start.Statement.{statement}
 use Rattle.waiting.proofs.calls.start.Tie as tie

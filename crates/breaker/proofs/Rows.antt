@@ -10,14 +10,14 @@ use Rattle.error.specs.Told.{tell, refused}
 use Rattle.error.specs.declared.Refusal.the-variants.{Storage, Unsound, Full}
 use Rattle.history.specs.Items.{padded, evicted}
 use Rattle.trip.specs.Policy.{Windowed}
-use Rattle.circuit.specs.declared.Ticket.{Ticket}
-use Rattle.circuit.specs.declared.Delay.{Delay}
-use Rattle.circuit.specs.declared.Breaker.{Breaker}
-use Rattle.circuit.specs.declared.Decision.the-variants.{Retry, Impossible}
-use Rattle.circuit.specs.Record.{Settings, State, Closed, HalfOpen, Open, soundConfig, soundShared, sound}
-use Rattle.circuit.specs.Rules.{Outcome, outcome, failure, inClosed, act, finish, admit}
-use Rattle.circuit.specs.Calls.{after, onSound, admission, tryAdmit}
-use Rattle.circuit.proofs.Guard.{sound-storage, sound-refused}
+use Rattle.breaker.specs.declared.Ticket.{Ticket}
+use Rattle.breaker.specs.declared.Delay.{Delay}
+use Rattle.breaker.specs.declared.Breaker.{Breaker}
+use Rattle.breaker.specs.declared.Decision.the-variants.{Retry, Impossible}
+use Rattle.breaker.specs.Record.{Settings, State, Closed, HalfOpen, Open, soundConfig, soundShared, sound}
+use Rattle.breaker.specs.Rules.{Outcome, outcome, failure, inClosed, act, finish, admit}
+use Rattle.breaker.specs.Calls.{after, onSound, admission, tryAdmit}
+use Rattle.breaker.proofs.Guard.{sound-storage, sound-refused}
 
 -- 3: storage of 4,095 places; all is left
 pub row3 : (rule : Settings → State → Outcome) (b : Breaker) → onSound rule b (replicate 4095 0) ≡ after (refused Storage) b (replicate 4095 0)

@@ -12,8 +12,8 @@ use Rattle.history.specs.Items.{view, soundList}
 use Rattle.trip.specs.declared.Config.{Config}
 use Rattle.trip.specs.Settings.{zeroRatio, oneRatio}
 use Rattle.trip.specs.Policy.{Policy, policyOf}
-use Rattle.circuit.specs.declared.Shared.{Shared}
-use Rattle.circuit.specs.declared.Breaker.{Breaker}
+use Rattle.breaker.specs.declared.Shared.{Shared}
+use Rattle.breaker.specs.declared.Breaker.{Breaker}
 
 -- "state 1 (0 Closed, 1 HalfOpen, 2 Open)"
 abbrev pub Closed : ℕ

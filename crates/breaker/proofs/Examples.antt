@@ -10,13 +10,13 @@ use Rattle.error.specs.Told.{tell}
 use Rattle.history.specs.Items.{padded, allBelow, soundList, sumOf, evicted}
 use Rattle.trip.specs.declared.Config.{Config}
 use Rattle.trip.specs.Policy.{Policy, Consecutive, Windowed, ratioReached, tripped}
-use Rattle.circuit.specs.declared.Ticket.{Ticket}
-use Rattle.circuit.specs.declared.Breaker.{Breaker}
-use Rattle.circuit.specs.Record.{Settings, State, Closed, HalfOpen, Open, settings, stored, soundPolicy, soundConfig, soundShared, sound}
-use Rattle.circuit.specs.Rules.{done, opening, closing, halfOpening, granted, shed, ticketOf, admit, Call, success, failure, inClosed, act, finish, reset, stillAdmits}
-use Rattle.circuit.specs.Calls.{fresh}
-use Rattle.circuit.specs.Orders.{FinishingOrders, run}
-use Rattle.circuit.proofs.Orders.{finishing-orders}
+use Rattle.breaker.specs.declared.Ticket.{Ticket}
+use Rattle.breaker.specs.declared.Breaker.{Breaker}
+use Rattle.breaker.specs.Record.{Settings, State, Closed, HalfOpen, Open, settings, stored, soundPolicy, soundConfig, soundShared, sound}
+use Rattle.breaker.specs.Rules.{done, opening, closing, halfOpening, granted, shed, ticketOf, admit, Call, success, failure, inClosed, act, finish, reset, stillAdmits}
+use Rattle.breaker.specs.Calls.{fresh}
+use Rattle.breaker.specs.Orders.{FinishingOrders, run}
+use Rattle.breaker.proofs.Orders.{finishing-orders}
 
 -- settings with two trials
 abbrev set : Policy → ℕ → ℕ → Settings

@@ -25,17 +25,17 @@ use Rattle.history.proofs.Sound.{view-padded, outcomes-fit}
 use Rattle.history.proofs.Held.{clear-sound, outcome-sound, time-sound, evict-sound}
 use Rattle.trip.specs.declared.Config.{Config}
 use Rattle.trip.specs.Policy.{Policy, Consecutive, Ratio, Windowed, policyOf}
-use Rattle.circuit.specs.declared.Breaker.{Breaker}
-use Rattle.circuit.specs.declared.Ticket.{Ticket}
-use Rattle.circuit.specs.declared.Decision.{Decision}
-use Rattle.circuit.specs.declared.Decision.the-variants.{Acquired, Retry, Impossible}
-use Rattle.circuit.specs.declared.Reservation.{Reservation}
-use Rattle.circuit.specs.Record.{Settings, State, Closed, HalfOpen, Open, settings, state, fields, stored, soundPolicy, soundConfig, itemsOf, sound}
-use Rattle.circuit.specs.Rules.{Outcome, outcome, withCounts, withHistory, moved, opening, closing, halfOpening, counting, recorded, noRoom, Call, success, failure, abort, traitAbort, probes, inHalfOpen, inClosed, finish, settling, ticketOf, released, manual, Admitted, granted, shed, admit, noted, viaTrait, admitAs, reset}
-use Rattle.circuit.specs.Calls.{fresh, answered, admission, tryInner, tryAdmit, cancel, isAcquired, handedOn, acquireInner, acquireCost, isReserved, reserveInner, reserve, refund}
-use Rattle.circuit.specs.Orders.{run}
-use Rattle.circuit.proofs.Cases.{probe-cases, admit-cases, failing, finish-cases, failure-cases}
-use Rattle.circuit.proofs.Record.{SoundShared, Sound, config→, shared→, →shared, sound→, →sound, stored-state, padded-state}
+use Rattle.breaker.specs.declared.Breaker.{Breaker}
+use Rattle.breaker.specs.declared.Ticket.{Ticket}
+use Rattle.breaker.specs.declared.Decision.{Decision}
+use Rattle.breaker.specs.declared.Decision.the-variants.{Acquired, Retry, Impossible}
+use Rattle.breaker.specs.declared.Reservation.{Reservation}
+use Rattle.breaker.specs.Record.{Settings, State, Closed, HalfOpen, Open, settings, state, fields, stored, soundPolicy, soundConfig, itemsOf, sound}
+use Rattle.breaker.specs.Rules.{Outcome, outcome, withCounts, withHistory, moved, opening, closing, halfOpening, counting, recorded, noRoom, Call, success, failure, abort, traitAbort, probes, inHalfOpen, inClosed, finish, settling, ticketOf, released, manual, Admitted, granted, shed, admit, noted, viaTrait, admitAs, reset}
+use Rattle.breaker.specs.Calls.{fresh, answered, admission, tryInner, tryAdmit, cancel, isAcquired, handedOn, acquireInner, acquireCost, isReserved, reserveInner, reserve, refund}
+use Rattle.breaker.specs.Orders.{run}
+use Rattle.breaker.proofs.Cases.{probe-cases, admit-cases, failing, finish-cases, failure-cases}
+use Rattle.breaker.proofs.Record.{SoundShared, Sound, config→, shared→, →shared, sound→, →sound, stored-state, padded-state}
 
 -- a state is sound under its settings: what is stored of it passes the test
 abbrev pub SoundAt : Config → State → Type 0

@@ -15,10 +15,10 @@ use Rattle.trip.specs.declared.Built.the-variants.{Made}
 use Rattle.trip.specs.declared.CircuitBreakerBuilder.{CircuitBreakerBuilder}
 use Rattle.trip.specs.Settings.{isTime, millis, zeroRatio, oneRatio, clampedRatio, normalisedTrip, periodIsTime, overLimit, configFor, builtOf}
 use Rattle.trip.proofs.Settings.{clamped-number}
-use Rattle.circuit.specs.Record.{soundRatio, soundPolicy, soundConfig}
-use Rattle.circuit.specs.Calls.{fresh}
+use Rattle.breaker.specs.Record.{soundRatio, soundPolicy, soundConfig}
+use Rattle.breaker.specs.Calls.{fresh}
 use Rattle.error.proofs.Choice.{if-cases}
-use Rattle.circuit.proofs.Keeps.{SoundAt, sound-fresh}
+use Rattle.breaker.proofs.Keeps.{SoundAt, sound-fresh}
 
 -- ---- floats: what is not below a number is at least it
 

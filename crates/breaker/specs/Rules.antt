@@ -11,9 +11,9 @@ use Rattle.error.specs.declared.Refusal.the-variants.{Full}
 use Rattle.history.specs.Items.{newest, evicted}
 use Rattle.history.specs.Change.{bit, full}
 use Rattle.trip.specs.Policy.{Policy, Consecutive, Ratio, Windowed, tripped}
-use Rattle.circuit.specs.declared.Ticket.{Ticket}
-use Rattle.circuit.specs.Record.{Settings, State, Closed, HalfOpen, Open}
-use Rattle.circuit.specs.Answers.{delayOf, delayValues}
+use Rattle.breaker.specs.declared.Ticket.{Ticket}
+use Rattle.breaker.specs.Record.{Settings, State, Closed, HalfOpen, Open}
+use Rattle.breaker.specs.Answers.{delayOf, delayValues}
 
 -- what a call does: what it tells, and the state after it
 pub record Outcome : Type 0 where

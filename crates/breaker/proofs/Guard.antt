@@ -9,16 +9,12 @@ use Rattle.error.specs.Told.{Told, tell, refused}
 use Rattle.error.specs.declared.Refusal.{Refusal}
 use Rattle.error.specs.declared.Refusal.the-variants.{Storage, Unsound}
 use Rattle.history.specs.Items.{padded}
-use Rattle.circuit.specs.declared.Breaker.{Breaker}
-use Rattle.circuit.specs.Record.{Settings, State, settings, state, stored, sound}
-use Rattle.circuit.specs.Rules.{Outcome, outcome}
-use Rattle.circuit.specs.Calls.{After, after, guarded, kept, onSound, asked}
-use Rattle.circuit.specs.Locked.{Holds}
-use Rattle.circuit.proofs.Record.{stored-state, padded-state, state-stored, sound-places}
-use Rattle.circuit.proofs.Keeps.{Keeps, sound-state}
-
-pub holds : (b : Breaker) (s : List ℕ) → sound b s ≡ true → Holds (b .config) (state b s) b s
-holds b s ok = (stored-state b s ok, padded-state b s ok)
+use Rattle.breaker.specs.declared.Breaker.{Breaker}
+use Rattle.breaker.specs.Record.{Settings, State, settings, state, stored, sound}
+use Rattle.breaker.specs.Rules.{Outcome, outcome}
+use Rattle.breaker.specs.Calls.{After, after, guarded, kept, onSound, asked}
+use Rattle.breaker.proofs.Record.{padded-state, state-stored, sound-places}
+use Rattle.breaker.proofs.Keeps.{Keeps, sound-state}
 
 -- ---- the tests, for whatever a call answers
 

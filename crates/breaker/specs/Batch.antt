@@ -8,11 +8,11 @@ use Rattle.error.specs.Choice.{if_then_else_}
 use Rattle.error.specs.Told.{Told, refused}
 use Rattle.error.specs.declared.Refusal.{Refusal}
 use Rattle.error.specs.declared.Refusal.the-variants.{Storage}
-use Rattle.circuit.specs.declared.Ticket.{Ticket}
-use Rattle.circuit.specs.declared.Breaker.{Breaker}
-use Rattle.circuit.specs.Rules.{Call, done, settling, aborting}
-use Rattle.circuit.specs.Calls.{After, after, kept, guarded}
-use Rattle.circuit.specs.Orders.{inTurn}
+use Rattle.breaker.specs.declared.Ticket.{Ticket}
+use Rattle.breaker.specs.declared.Breaker.{Breaker}
+use Rattle.breaker.specs.Rules.{Call, done, settling, aborting}
+use Rattle.breaker.specs.Calls.{After, after, kept, guarded}
+use Rattle.breaker.specs.Orders.{inTurn}
 
 -- a settle with success or failure by the mark, or an abort through the trait side or not
 abbrev pub callBy : Ticket → Bool → Bool → Call

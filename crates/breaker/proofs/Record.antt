@@ -18,9 +18,9 @@ use Rattle.history.proofs.Sound as List·
 use lib.Ieee.{binary64, ofBits}
 use Rattle.trip.specs.declared.Config.{Config}
 use Rattle.trip.specs.Settings.{zeroRatio, oneRatio}
-use Rattle.circuit.specs.declared.Shared.{Shared}
-use Rattle.circuit.specs.declared.Breaker.{Breaker}
-use Rattle.circuit.specs.Record.{State, HalfOpen, state, fields, stored, soundPolicy, soundConfig, soundShared, itemsOf, sound}
+use Rattle.breaker.specs.declared.Shared.{Shared}
+use Rattle.breaker.specs.declared.Breaker.{Breaker}
+use Rattle.breaker.specs.Record.{State, HalfOpen, state, fields, stored, soundPolicy, soundConfig, soundShared, itemsOf, sound}
 
 -- ---- the settings
 pub record SoundConfig (c : Config) : Type 0 where

@@ -10,9 +10,9 @@ use Rattle.error.specs.Told.{refused}
 use Rattle.error.specs.declared.Refusal.the-variants.{Full}
 use Rattle.error.proofs.Choice.{if-cases, and-split}
 use Rattle.trip.specs.Policy.{tripped}
-use Rattle.circuit.specs.declared.Ticket.{Ticket}
-use Rattle.circuit.specs.Record.{Settings, State, Closed, HalfOpen, Open}
-use Rattle.circuit.specs.Rules.{Outcome, outcome, done, withCounts, withHistory, opening, halfOpening, ticketOf, Admitted, granted, shed, admit, Call, failure, ticket, inHalfOpen, recorded, noRoom, inClosed, act, finish}
+use Rattle.breaker.specs.declared.Ticket.{Ticket}
+use Rattle.breaker.specs.Record.{Settings, State, Closed, HalfOpen, Open}
+use Rattle.breaker.specs.Rules.{Outcome, outcome, done, withCounts, withHistory, opening, halfOpening, ticketOf, Admitted, granted, shed, admit, Call, failure, ticket, inHalfOpen, recorded, noRoom, inClosed, act, finish}
 
 -- with a trait probe in HalfOpen, or without
 pub probe-cases : {A : Type 0} (P : A → Type 0) (st : State) {a b : A} → (st .state ≡ HalfOpen → P a) → P b

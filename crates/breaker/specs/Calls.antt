@@ -15,15 +15,15 @@ use Rattle.trip.specs.declared.Built.the-variants.{Made, Refused}
 use Rattle.trip.specs.declared.CircuitBreakerBuilder.{CircuitBreakerBuilder}
 use Rattle.trip.specs.Settings.{builtOf}
 use Rattle.trip.specs.Policy.{Policy, Consecutive, Ratio, Windowed, boardFigure}
-use Rattle.circuit.specs.declared.Ticket.{Ticket}
-use Rattle.circuit.specs.declared.Breaker.{Breaker}
-use Rattle.circuit.specs.declared.Decision.{Decision}
-use Rattle.circuit.specs.declared.Decision.the-variants.{Acquired, Retry, Impossible}
-use Rattle.circuit.specs.declared.Reservation.{Reservation}
-use Rattle.circuit.specs.declared.Reservation.the-variants.{Wait, Nothing}
-use Rattle.circuit.specs.Record.{Settings, State, Closed, settings, state, stored, sound}
-use Rattle.circuit.specs.Answers.{ticketValues, decisionValues, reservationValues, delayOf}
-use Rattle.circuit.specs.Rules.{Outcome, outcome, done, Admitted, granted, shed, admit, admitAs, finish, abort, traitAbort, settling, aborting, released, sheds}
+use Rattle.breaker.specs.declared.Ticket.{Ticket}
+use Rattle.breaker.specs.declared.Breaker.{Breaker}
+use Rattle.breaker.specs.declared.Decision.{Decision}
+use Rattle.breaker.specs.declared.Decision.the-variants.{Acquired, Retry, Impossible}
+use Rattle.breaker.specs.declared.Reservation.{Reservation}
+use Rattle.breaker.specs.declared.Reservation.the-variants.{Wait, Nothing}
+use Rattle.breaker.specs.Record.{Settings, State, Closed, settings, state, stored, sound}
+use Rattle.breaker.specs.Answers.{ticketValues, decisionValues, reservationValues, delayOf}
+use Rattle.breaker.specs.Rules.{Outcome, outcome, done, Admitted, granted, shed, admit, admitAs, finish, abort, traitAbort, settling, aborting, released, sheds}
 
 -- ---- what a call leaves: what it told, the record, and every place
 

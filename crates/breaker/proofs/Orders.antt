@@ -14,14 +14,14 @@ use lib.Dec.{eqb, leb}
 use borrow.Author.Tests.{eq-eqb, ne-eqb, eqb-true, eqb-false, leb-true, leb-false, le-leb, lt-leb}
 use Rattle.error.specs.Choice.{if_then_else_}
 use Rattle.history.specs.Items.{padded}
-use Rattle.circuit.specs.declared.Ticket.{Ticket}
-use Rattle.circuit.specs.declared.Breaker.{Breaker}
-use Rattle.circuit.specs.Record.{Settings, State, Closed, HalfOpen, Open, settings, state, stored}
-use Rattle.circuit.specs.Rules.{done, next, opening, closing, counting, Call, success, failure, abort, traitAbort, ticket, probes, inHalfOpen, inClosed, act, finish}
-use Rattle.circuit.specs.Orders.{Ran, run, succeeds, fails, many, AllOf, known, onlyKnown, nothing, putBack, Harmless, Equal, Theorem}
+use Rattle.breaker.specs.declared.Ticket.{Ticket}
+use Rattle.breaker.specs.declared.Breaker.{Breaker}
+use Rattle.breaker.specs.Record.{Settings, State, Closed, HalfOpen, Open, settings, state, stored}
+use Rattle.breaker.specs.Rules.{done, next, opening, closing, counting, Call, success, failure, abort, traitAbort, ticket, probes, inHalfOpen, inClosed, act, finish}
+use Rattle.breaker.specs.Orders.{Ran, run, succeeds, fails, many, AllOf, known, onlyKnown, nothing, putBack, Harmless, Equal, Theorem}
 use Rattle.error.proofs.Choice.{if-cases}
-use Rattle.circuit.proofs.Cases.{finish-cases, failure-cases}
-use Rattle.circuit.proofs.Record.{sound→, shared→}
+use Rattle.breaker.proofs.Cases.{finish-cases, failure-cases}
+use Rattle.breaker.proofs.Record.{sound→, shared→}
 
 -- ---- the counters and the generation of a state
 counting-none : (st : State) → counting 0 0 0 st ≡ st

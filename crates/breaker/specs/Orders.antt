@@ -10,9 +10,9 @@ use lib.Dec.{eqb}
 use Rattle.error.specs.Choice.{if_then_else_}
 use Rattle.error.specs.Told.{Told, tell}
 use Rattle.history.specs.Items.{padded}
-use Rattle.circuit.specs.declared.Breaker.{Breaker}
-use Rattle.circuit.specs.Record.{Settings, State, Closed, HalfOpen, Open, settings, state, stored, sound}
-use Rattle.circuit.specs.Rules.{next, Call, success, failure, abort, traitAbort, ticket, finish}
+use Rattle.breaker.specs.declared.Breaker.{Breaker}
+use Rattle.breaker.specs.Record.{Settings, State, Closed, HalfOpen, Open, settings, state, stored, sound}
+use Rattle.breaker.specs.Rules.{next, Call, success, failure, abort, traitAbort, ticket, finish}
 
 -- ---- a sequence, in turn: each call gets what the last one left
 

@@ -1,0 +1,127 @@
+// The breaker record, its tickets and replies, and the answers of its calls, by value (circuit.rs of the Rust).
+// The rules stand in specs/, and what holds of them, demand 3 too, in proofs/. The code is in circuit.
+use error::Refusal;
+use trip::Config;
+
+// What calls change of a breaker, in document 01's order.
+#[repr(C)]
+pub struct Shared {
+    // 0 Closed, 1 HalfOpen, 2 Open
+    pub state: u8,
+    pub generation: u64,
+    // failures in a row
+    pub run: u32,
+    pub inflight: u32,
+    pub trait_probes: u32,
+    pub successes: u32,
+    pub open_until: u64,
+    // of the list in the storage
+    pub len: u32,
+}
+
+#[repr(C)]
+pub struct Breaker {
+    pub config: Config,
+    pub shared: Shared,
+}
+
+// An admission: the generation it was made under, and whether it holds a trial.
+#[repr(C)]
+pub struct Ticket {
+    pub generation: u64,
+    pub probe: bool,
+}
+
+pub struct Delay {
+    pub ms: u64,
+}
+
+// What an inner limiter replied (decision.rs of the Rust).
+pub enum Decision {
+    Acquired,
+    Retry(Delay),
+    Impossible,
+}
+
+// What an inner limiter replied to a reservation.
+pub enum Reservation {
+    Wait(Delay),
+    Nothing,
+}
+
+pub enum Admission {
+    Granted(Ticket),
+    Shed(Delay),
+    Refused(Refusal),
+}
+
+pub enum Finished {
+    Done,
+    Refused(Refusal),
+}
+
+pub enum Tried {
+    Granted(Ticket),
+    Shed(Delay),
+    Retry,
+    Impossible { cost: u32, capacity: u32 },
+    Refused(Refusal),
+}
+
+pub enum Standing {
+    Admits,
+    Shed(Delay),
+    Refused(Refusal),
+}
+
+// A notice to give so much back to the inner limiter.
+pub enum Notice {
+    Refund(u32),
+    Refused(Refusal),
+}
+
+pub enum Decided {
+    Is(Decision),
+    Refused(Refusal),
+}
+
+pub enum Reserved {
+    Is(Reservation),
+    Refused(Refusal),
+}
+
+pub enum Counted {
+    Count(u64),
+    Refused(Refusal),
+}
+
+// The answer of a call that finishes or forces, and the record after it.
+pub struct Settled {
+    pub answer: Finished,
+    pub breaker: Breaker,
+}
+
+pub struct Admitted {
+    pub answer: Admission,
+    pub breaker: Breaker,
+}
+
+pub struct TriedAdmission {
+    pub answer: Tried,
+    pub breaker: Breaker,
+}
+
+pub struct Noticed {
+    pub answer: Notice,
+    pub breaker: Breaker,
+}
+
+pub struct Acquisition {
+    pub answer: Decided,
+    pub breaker: Breaker,
+}
+
+pub struct Reserving {
+    pub answer: Reserved,
+    pub breaker: Breaker,
+}

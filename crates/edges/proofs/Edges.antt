@@ -1,0 +1,101 @@
+-- P1 to P12: the one proof of the list. Assumes nothing.
+use Prim.Native.Nat.{ℕ, _+_, _-_, _^_, _≤_}
+use native.Mathlib.Omega.{arith}
+use mathlib.Core.Path.{_≡_, refl, ap, _∙_}
+use mathlib.Core.Bool.{Bool, true, false}
+use mathlib.Core.List.{List, [], _∷_}
+use lib.Count.{trailingZeros}
+use lib.Dec.{eqb, leb, ltb}
+use lib.Ieee.{isNan, round, le, lt, eq, size, span, climb, units, odd, ofBits, ofFields}
+use borrow.Author.Tests.{eq-eqb, le-leb}
+use Rattle.error.specs.Told.{Told, tell}
+use Rattle.history.specs.Items.{sumOf, evicted}
+use Rattle.trip.specs.Settings.{clampedRatio, builtOf}
+use Rattle.trip.specs.Policy.{ratioReached, tripped}
+use Rattle.breaker.specs.Rules.{admit, inClosed, act, finish, stillAdmits}
+use Rattle.breaker.specs.Orders.{run}
+use Rattle.wait.specs.declared.Wait.{Wait}
+use Rattle.wait.specs.declared.Turning.{Turning}
+use Rattle.wait.specs.declared.Observed.{Observed}
+use Rattle.wait.specs.declared.Turned.the-variants.{Next, Ends}
+use Rattle.wait.specs.declared.Act.the-variants.{Yield}
+use Rattle.wait.specs.declared.Ending.the-variants.{Deadline}
+use Rattle.wait.specs.Turns.{endedWait, newWait, withZeros, turnInBounds, waitInBounds, retries, retriesZero}
+use Rattle.wait.specs.Keep.{turning, moves, turned, tellTurn}
+use Rattle.edges.specs.Edges.{retryNow, tells, yields, P2, P3, P4, P5, P6, P7, P9, P10, P11, P12, edges, All}
+
+p2 : P2
+unfolding clampedRatio isNan
+p2 = refl
+
+p3 : P3
+unfolding clampedRatio isNan lt
+p3 = refl
+
+p4 : P4
+unfolding builtOf
+p4 = refl
+
+p5 : P5
+unfolding admit
+p5 s = (refl, refl)
+
+p6 : P6
+unfolding finish act inClosed tripped ratioReached sumOf round le lt eq size span climb units odd trailingZeros ofBits ofFields
+p6 = refl
+
+p7 : P7
+unfolding finish act inClosed tripped sumOf evicted
+p7 = (refl, refl)
+
+p9 : P9
+unfolding finish act
+p9 = refl
+
+p10 : P10
+unfolding stillAdmits finish
+p10 s reading = (refl, refl, refl)
+
+p11 : P11
+unfolding run finish act
+p11 = (refl, refl, refl, refl)
+
+-- a wait with timeout 0 after k retries of 0
+abbrev after : ℕ → ℕ → Wait
+after clock k = withZeros k (newWait clock true 0)
+
+module _ (clock : ℕ) (l : clock ≤ 2 ^ 62) where
+  in-time : leb clock (2 ^ 62) ≡ true
+  in-time = le-leb _ _ l
+
+  at-deadline : leb (clock + 0) (2 ^ 63) ≡ true
+  at-deadline = le-leb _ _ (omega (arith, l))
+
+  nothing-left : clock + 0 - clock ≡ 0
+  nothing-left = omega arith
+
+  yield-1 : turned (after clock 0) (retryNow clock) ≡ turning (Next Yield) (after clock 1)
+  unfolding turned turnInBounds waitInBounds moves retries retriesZero
+  yield-1 = rw (in-time, at-deadline, nothing-left) refl
+
+  yield-2 : turned (after clock 1) (retryNow clock) ≡ turning (Next Yield) (after clock 2)
+  unfolding turned turnInBounds waitInBounds moves retries retriesZero
+  yield-2 = rw (in-time, at-deadline, nothing-left) refl
+
+  yield-3 : turned (after clock 2) (retryNow clock) ≡ turning (Next Yield) (after clock 3)
+  unfolding turned turnInBounds waitInBounds moves retries retriesZero
+  yield-3 = rw (in-time, at-deadline, nothing-left) refl
+
+  yield-4 : turned (after clock 3) (retryNow clock) ≡ turning (Next Yield) (after clock 4)
+  unfolding turned turnInBounds waitInBounds moves retries retriesZero
+  yield-4 = rw (in-time, at-deadline, nothing-left) refl
+
+  deadline-5 : turned (after clock 4) (retryNow clock) ≡ turning (Ends (Deadline 0)) endedWait
+  unfolding turned turnInBounds waitInBounds moves retries retriesZero
+  deadline-5 = rw (in-time, at-deadline, nothing-left) refl
+
+p12 : P12
+p12 clock l = rw (yield-1 clock l, yield-2 clock l, yield-3 clock l, yield-4 clock l, deadline-5 clock l) refl
+
+pub proof : All edges
+proof = (refl, (p2, (p3, (p4, (p5, (p6, (p7, ((λ s reading st e. (rw e, rw e, rw e)), (p9, (p10, (p11, (p12, tt))))))))))))

@@ -1,0 +1,2 @@
+-- P1 to P12 of document 01.
+pub mod Edges
