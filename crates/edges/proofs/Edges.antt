@@ -6,7 +6,7 @@ use mathlib.Core.Bool.{Bool, true, false}
 use mathlib.Core.List.{List, [], _∷_}
 use lib.Count.{trailingZeros}
 use lib.Dec.{eqb, leb, ltb}
-use lib.Ieee.{isNan, round, le, lt, eq, size, span, climb, units, odd, ofBits, ofFields}
+use lib.Ieee.{toBits, isNan, round, le, lt, eq, size, span, climb, units, odd, ofBits, ofFields}
 use borrow.Author.Tests.{eq-eqb, le-leb}
 use Rattle.error.specs.Told.{Told, tell}
 use Rattle.history.specs.Items.{sumOf, evicted}
@@ -29,8 +29,8 @@ unfolding clampedRatio isNan
 p2 = refl
 
 p3 : P3
-unfolding clampedRatio isNan lt
-p3 = refl
+unfolding clampedRatio toBits isNan lt
+p3 = (refl, refl)
 
 p4 : P4
 unfolding builtOf
@@ -66,10 +66,10 @@ after clock k = withZeros k (newWait clock true 0)
 
 module _ (clock : ℕ) (l : clock ≤ 2 ^ 62) where
   in-time : leb clock (2 ^ 62) ≡ true
-  in-time = le-leb _ _ l
+  in-time = le-leb clock (2 ^ 62) l
 
   at-deadline : leb (clock + 0) (2 ^ 63) ≡ true
-  at-deadline = le-leb _ _ (omega (arith, l))
+  at-deadline = le-leb (clock + 0) (2 ^ 63) (omega (arith, l))
 
   nothing-left : clock + 0 - clock ≡ 0
   nothing-left = omega arith

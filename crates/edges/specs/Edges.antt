@@ -4,7 +4,7 @@ use mathlib.Core.Path.{_≡_}
 use mathlib.Core.Bool.{true, false}
 use mathlib.Core.List.{List, [], _∷_}
 use lib.IntN.{pos}
-use lib.Ieee.{nan, fin}
+use lib.Ieee.{nan, fin, binary64, toBits}
 use Rattle.error.specs.Told.{Told, tell}
 use Rattle.trip.specs.declared.Config.{Config}
 use Rattle.trip.specs.declared.Trip.the-variants as Trip·is
@@ -29,9 +29,9 @@ P1 = normalisedTrip (Trip·is.Consecutive 0) ≡ Trip·is.Consecutive 1
 abbrev pub P2 : Type 0
 P2 = normalisedTrip (Trip·is.Ratio 0 nan 9) ≡ Trip·is.Ratio 1 oneRatio 1
 
--- "P3 ratio −0.0 stays −0.0."
+-- "P3 ratio −0.0 stays −0.0.", and so do its bits
 abbrev pub P3 : Type 0
-P3 = clampedRatio (fin true 0 (pos 0)) ≡ fin true 0 (pos 0)
+P3 = (clampedRatio (fin true 0 (pos 0)) ≡ fin true 0 (pos 0)) × (toBits binary64 (clampedRatio (fin true 0 (pos 0))) ≡ 0x8000_0000_0000_0000)
 
 -- "P4 half-open 3, 9 becomes 3, 3."
 abbrev pub P4 : Type 0

@@ -6,7 +6,7 @@ use mathlib.Core.List.{List, [], _∷_}
 use lib.Dec.{eqb}
 use Rattle.error.specs.Told.{Told, tell, refused, numberOf}
 use Rattle.error.specs.declared.Refusal.{Refusal}
-use Rattle.error.specs.declared.Refusal.the-variants.{Time, Limit, Storage, Unsound, Full}
+use Rattle.error.specs.declared.Refusal.the-variants.{Time, Limit, Storage, Unsound, Full, Turn}
 use Rattle.trip.specs.declared.Config.{Config}
 use Rattle.breaker.specs.declared.Breaker.{Breaker}
 use Rattle.breaker.specs.Record.{State, settings, state, sound}
@@ -28,6 +28,7 @@ refused-line Limit st = refl
 refused-line Storage st = refl
 refused-line Unsound st = refl
 refused-line Full st = refl
+refused-line Turn st = refl
 
 -- what an entry point left, told on as the step's
 pub step-of : (call : Call) (b : Breaker) (s s' : List ℕ) (t : Told) (b' : Breaker) (r : Stepped) → after t b' s' ≡ onSound (called call) b s
