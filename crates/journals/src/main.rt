@@ -1,5 +1,6 @@
 // Replays journals that stand on standard input with the outputs expected of them, and counts those that differ.
-// A journal stands as `J name n m`, a line feed, n bytes of journal and m bytes of expected output.
+// A journal stands as `J name n m`, a line feed, n bytes of journal and m bytes of expected output. The file stdin was written by the
+// oracle (`journal cases` of oracle/: the unchanged Rust for every state change); stdout has their number, and 0 that differ.
 ghost use mathlib.Core.Path.{_≡_};
 ghost use Prim.Native.Nat.{_≤_, _<_, min};
 ghost use lib.ListN.{length};

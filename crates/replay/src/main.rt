@@ -1,4 +1,5 @@
 // Replays the journal on standard input to standard output. Where that fails it says so on standard error.
+// The files stdin and stdout are document 01's case.
 ghost use Prim.Native.Nat.{_≤_};
 ghost use lib.ListN.{length};
 ghost use Rattle.io.specs.Counts.{Counts};
