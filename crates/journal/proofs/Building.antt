@@ -1,5 +1,5 @@
 -- Laws of the breaker that a header makes. Assumes nothing.
-use Prim.Native.Nat.{ℕ, _%_, _≤_, _<_}
+use Prim.Native.Nat.{ℕ, _%_, _<_, max}
 use native.Mathlib.Omega.{arith}
 use mathlib.Core.Path.{_≡_, refl, sym, ap, ap₂, _∙_}
 use mathlib.Core.Bool.{Bool, true, false}
@@ -7,7 +7,10 @@ use mathlib.Core.List.{List, []}
 use lib.ListN.{length}
 use lib.Ieee.{Float, binary64, ofBits, isNan, lt}
 use lib.Ieee.Bits.{nanBits-is, nanBits-above, ofBits-fits}
+use lib.Dec.{ltb}
 use borrow.Author.Tests.{eq-eqb, lt-ltb}
+use Rattle.error.specs.Choice.{if_then_else_}
+use Rattle.error.specs.declared.Refusal.the-variants.{Limit}
 use Rattle.error.specs.Told.{Told, tell, refused}
 use Rattle.error.specs.declared.Refusal.{Refusal}
 use Rattle.error.proofs.OneToOne.{no-refusal, refused-one}
@@ -19,8 +22,9 @@ use Rattle.trip.specs.declared.CircuitBreakerBuilder.{CircuitBreakerBuilder}
 use Rattle.trip.specs.declared.Trip.the-variants as Trip·is
 use Rattle.trip.specs.declared.Duration.{Duration}
 use Rattle.trip.specs.Settings.{oneRatio, clampedRatio, builtOf}
+use Rattle.trip.proofs.Settings.{of-millis-time}
 use Rattle.breaker.specs.declared.Breaker.{Breaker}
-use Rattle.breaker.specs.Record.{State, state, stored, sound}
+use Rattle.breaker.specs.Record.{state, stored, sound}
 use Rattle.breaker.specs.Calls.{After, after, fresh, put, built}
 use Rattle.breaker.proofs.Record.{state-stored}
 use Rattle.breaker.proofs.Built.{RatioFits, sound-built}
@@ -46,6 +50,17 @@ pub built-ratio : (w m t q : ℕ) (d : Duration) (r r' : Float) → clampedRatio
     ≡ builtOf (record { trip = Trip·is.Ratio w r' m; cooldown = d; «half_open_trials» = t; «half_open_required» = q })
 unfolding builtOf
 built-ratio w m t q d r r' e = rw e
+
+-- ---- a header is refused by number 2 alone: its times are whole milliseconds
+limit-alone : (x : Bool) (c : Config) (r : Refusal) → (if x then Refused Limit else Made c) ≡ Refused r → r ≡ Limit
+limit-alone true c r e = cc
+limit-alone false c r e = let z : _≡_ {A = ℕ} 0 1 = cc in absurd (omega arith)
+
+pub refused-limit : (h : Header) (r : Refusal) → builtOf (builderOf h) ≡ Refused r → r ≡ Limit
+unfolding builtOf
+refused-limit (Consecutive n c t q) r e = limit-alone false _ r (rw (of-millis-time c) at e)
+refused-limit (Ratio w b m c t q) r e = limit-alone (ltb 4096 (max w 1)) _ r (rw (of-millis-time c) at e)
+refused-limit (Windowed f p c t q) r e = limit-alone (ltb 4096 (max f 1)) _ r (rw (of-millis-time c, of-millis-time p) at e)
 
 -- ---- a header's breaker is sound
 ratio-fits : (h : Header) → RatioFits (builderOf h .trip)

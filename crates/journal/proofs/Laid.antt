@@ -1,7 +1,7 @@
 -- Bytes laid over a buffer: one, and one run after another. And how long a printed line is. Assumes nothing.
 use mathlib.Core.Path.{_≡_, refl, sym, ap, _∙_}
 use mathlib.Core.List.{List, [], _∷_, _++_, append-assoc, append-nil}
-use Prim.Native.Nat.{ℕ, zero, suc, _+_, _-_, _*_, _/_, _%_, _≤_, _<_, _^_}
+use Prim.Native.Nat.{ℕ, zero, suc, _+_, _-_, _*_, _/_, _≤_, _<_, _^_}
 use native.Mathlib.Nat.{add-assoc, add-zero, pow-suc}
 use mir.Val.{Fits}
 use mir.Syntax.{w64}

@@ -1,8 +1,8 @@
 -- Laws of the replay: the loop's turns, the whole answer, and that a journal has one answer only. Assumes nothing.
 use mathlib.Core.Path.{_≡_, refl, sym, ap, _∙_}
 use mathlib.Core.Bool.{Bool, true, false}
-use mathlib.Core.List.{List, [], _∷_, _++_, append-assoc, append-nil}
-use Prim.Native.Nat.{ℕ, zero, suc, _+_, _*_, _≤_, _<_, min}
+use mathlib.Core.List.{List, [], _∷_, _++_, append-assoc}
+use Prim.Native.Nat.{ℕ, suc, _+_, _≤_, min}
 use native.Mathlib.Numerals.{add-one}
 use native.Mathlib.Omega.{arith}
 use lib.Dec.{ltb}
@@ -20,7 +20,7 @@ use Rattle.breaker.specs.declared.Breaker.{Breaker}
 use Rattle.breaker.specs.Record.{Settings, State, settings}
 use Rattle.lines.specs.declared.Call.{Call}
 use Rattle.lines.specs.declared.Header.{Header}
-use Rattle.lines.specs.Print.{printDecimal, decimalIn, printFields, printLine, printCall, readingOf, letterOf, fieldsOf, CallFits, printHeader, HeaderFits}
+use Rattle.lines.specs.Print.{printDecimal, decimalIn, printLine, printCall, readingOf, CallFits, printHeader, HeaderFits}
 use Rattle.lines.specs.Reads.{NoCall, NoHeader}
 use Rattle.lines.proofs.Calls.{same-call}
 use Rattle.lines.proofs.Headers.{same-header}

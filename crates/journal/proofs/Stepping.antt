@@ -1,17 +1,16 @@
 -- Laws of one call of the journal: its answer's line, and what it leaves of a sound breaker. Assumes nothing.
 use Prim.Native.Nat.{ℕ}
-use mathlib.Core.Path.{_≡_, refl, sym, ap, ap₂, _∙_}
-use mathlib.Core.Bool.{Bool, true, false}
-use mathlib.Core.List.{List, [], _∷_}
-use lib.Dec.{eqb}
-use Rattle.error.specs.Told.{Told, tell, refused, numberOf}
+use mathlib.Core.Path.{_≡_, refl, ap, ap₂, _∙_}
+use mathlib.Core.Bool.{true, false}
+use mathlib.Core.List.{List, _∷_}
+use Rattle.error.specs.Told.{Told, refused, numberOf}
 use Rattle.error.specs.declared.Refusal.{Refusal}
 use Rattle.error.specs.declared.Refusal.the-variants.{Time, Limit, Storage, Unsound, Full, Turn}
 use Rattle.trip.specs.declared.Config.{Config}
 use Rattle.breaker.specs.declared.Breaker.{Breaker}
 use Rattle.breaker.specs.Record.{State, settings, state, sound}
 use Rattle.breaker.specs.Rules.{settling, aborting}
-use Rattle.breaker.specs.Calls.{After, after, onSound}
+use Rattle.breaker.specs.Calls.{after, onSound}
 use Rattle.breaker.proofs.Keeps.{Keeps, sound-finish, sound-admission, sound-reset}
 use Rattle.breaker.proofs.Guard.{sound-called}
 use Rattle.lines.specs.declared.Call.{Call}
@@ -19,7 +18,7 @@ use Rattle.lines.specs.declared.Call.the-variants.{Admit, Success, Failure, Abo
 use Rattle.lines.specs.Print.{printLine}
 use Rattle.journal.specs.declared.Stepped.{Stepped}
 use Rattle.journal.specs.Replay.{ticketOf, called, five, answerLine}
-use Rattle.journal.specs.Steps.{lineBy, Says, StepsTo}
+use Rattle.journal.specs.Steps.{Says, StepsTo}
 
 -- a refusal's line
 pub refused-line : (r : Refusal) (st : State) → printLine 69 (numberOf r ∷ five st) ≡ answerLine (refused r) st

@@ -3,7 +3,7 @@ use Prim.Native.Nat.{ℕ, _≤_}
 use mathlib.Core.Path.{_≡_}
 use mathlib.Core.Bool.{Bool}
 use mathlib.Core.List.{List, _∷_}
-use lib.ListN.{length, take, drop}
+use lib.ListN.{length, drop}
 use Rattle.error.specs.Told.{Told}
 use Rattle.history.specs.Items.{padded}
 use Rattle.breaker.specs.declared.Breaker.{Breaker}

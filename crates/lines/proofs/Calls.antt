@@ -1,8 +1,8 @@
 -- Laws of a call's line: what is printed is taken again, and what is taken was printed. Assumes nothing.
-use mathlib.Core.Path.{_≡_, refl, sym, ap, _∙_}
+use mathlib.Core.Path.{_≡_, refl, sym}
 use mathlib.Core.Bool.{Bool, true, false}
 use mathlib.Core.List.{List, [], _∷_, _++_, append-assoc}
-use Prim.Native.Nat.{ℕ, zero, suc, _+_, _-_, _≤_, _<_, _^_}
+use Prim.Native.Nat.{ℕ, zero, suc, _+_, _≤_, _<_, _^_}
 use native.Mathlib.Omega.{arith}
 use lib.ListN.{length, take, drop, getD}
 use lib.Seq.{getD-take}
@@ -10,7 +10,7 @@ use lib.Dec.{eqb}
 use borrow.Author.Tests.{eqb-true}
 use Rattle.error.specs.Choice.{if_then_else_}
 use Rattle.lines.specs.Print.{printDecimal, printFields, printCall, readingOf, letterOf, fieldsOf, bit, AllFit, CallFits}
-use Rattle.lines.specs.Take.{Taken, got, none, bound, max64, digitOf, takeNumber, takeRest, printAll, Within, limitsOf, madeCall, takeKind, takeLetter, takeCall, seenCall}
+use Rattle.lines.specs.Take.{got, none, max64, digitOf, takeNumber, takeRest, printAll, Within, limitsOf, madeCall, takeKind, takeLetter, takeCall, seenCall}
 use Rattle.lines.specs.Reads.{CallRead}
 use Rattle.lines.specs.declared.Call.{Call}
 use Rattle.lines.specs.declared.Call.the-variants.{Admit, Success, Failure, Abort, Reset}

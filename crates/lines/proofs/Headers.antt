@@ -1,8 +1,8 @@
 -- Laws of the header's line: what is printed is taken again, and what is taken was printed. Assumes nothing.
-use mathlib.Core.Path.{_≡_, refl, sym, ap, _∙_}
+use mathlib.Core.Path.{_≡_, refl, sym, ap}
 use mathlib.Core.Bool.{Bool, true, false}
 use mathlib.Core.List.{List, [], _∷_, _++_, append-assoc}
-use Prim.Native.Nat.{ℕ, zero, suc, _+_, _-_, _≤_, _<_, _^_}
+use Prim.Native.Nat.{ℕ, _+_, _<_, _^_}
 use native.Mathlib.Omega.{arith}
 use lib.ListN.{length, take, drop, getD}
 use lib.Seq.{getD-take}
@@ -10,7 +10,7 @@ use lib.Dec.{eqb}
 use borrow.Author.Tests.{eqb-true}
 use Rattle.error.specs.Choice.{if_then_else_}
 use Rattle.lines.specs.Print.{printDecimal, printHex16, printFields, printHeader, HeaderFits}
-use Rattle.lines.specs.Take.{Taken, got, none, bound, max32, max64, takeRest, printAll, Within, limitsOf, madeHeader, takeHeader, seenHeader}
+use Rattle.lines.specs.Take.{got, none, max32, takeRest, printAll, Within, limitsOf, madeHeader, takeHeader, seenHeader}
 use Rattle.lines.specs.Reads.{HeaderRead}
 use Rattle.lines.specs.declared.Header.{Header}
 use Rattle.lines.specs.declared.Header.the-variants.{Consecutive, Ratio, Windowed}

@@ -1,5 +1,5 @@
 -- Laws of numbers in bytes: what is printed is taken again, and what is taken was printed. Assumes nothing.
-use mathlib.Core.Path.{_≡_, refl, sym, ap, _∙_}
+use mathlib.Core.Path.{_≡_, refl, sym, _∙_}
 use mathlib.Core.Bool.{Bool, true, false, _&&_}
 use mathlib.Core.List.{List, [], _∷_, _++_, append-assoc}
 use Prim.Native.Nat.{ℕ, zero, suc, _+_, _*_, _-_, _/_, _%_, _^_, _≤_, _<_}
@@ -9,10 +9,10 @@ use native.Mathlib.Omega.{arith}
 use lib.ListN.{length, drop, getD, drop-of-length-le}
 use lib.Seq.{drop-cons}
 use lib.Dec.{ltb, leb, eqb}
-use borrow.Author.Tests.{ltb-true, ltb-false, leb-true, leb-false, eqb-true, eqb-false, lt-ltb, le-ltb, le-leb, lt-leb, eq-eqb, ne-eqb}
+use borrow.Author.Tests.{ltb-true, ltb-false, leb-true, leb-false, eqb-true, eqb-false, lt-ltb, le-ltb, le-leb, lt-leb, ne-eqb}
 use Rattle.error.specs.Choice.{if_then_else_}
 use Rattle.lines.specs.Print.{decimalIn, printDecimal, glyph, hexIn, printHex16}
-use Rattle.lines.specs.Take.{Taken, got, none, digitOf, roomFor, takeDigits, takeNumber, takeHex}
+use Rattle.lines.specs.Take.{got, none, digitOf, roomFor, takeDigits, takeNumber, takeHex}
 
 -- ---- room for one digit more
 pub room-wide : (limit v d : ℕ) → limit < d → false ≡ roomFor limit v d

@@ -1,6 +1,6 @@
 -- Internal: what the readers take from the front of a list of bytes. The promises of Reads follow from it by laws, so nobody need believe it.
-use Prim.Native.Nat.{ℕ, zero, suc, _+_, _*_, _-_, _^_, _<_, _≤_}
-use mathlib.Core.Bool.{Bool, true, _&&_, _||_}
+use Prim.Native.Nat.{ℕ, zero, suc, _+_, _*_, _-_, _^_, _≤_}
+use mathlib.Core.Bool.{Bool, _&&_}
 use mathlib.Core.List.{List, [], _∷_, _++_}
 use lib.ListN.{drop, getD}
 use lib.Dec.{ltb, leb, eqb}
@@ -10,7 +10,6 @@ use Rattle.lines.specs.declared.Number.{Number}
 use Rattle.lines.specs.declared.Number.the-variants.{Value, Bad}
 use Rattle.lines.specs.declared.Place.{Place}
 use Rattle.lines.specs.declared.Place.the-variants.{At, Nowhere}
-use Rattle.lines.specs.declared.Limits.{Limits}
 use Rattle.lines.specs.declared.Call.{Call}
 use Rattle.lines.specs.declared.Call.the-variants.{Admit, Success, Failure, Abort, Reset}
 use Rattle.lines.specs.declared.ReadCall.{ReadCall}

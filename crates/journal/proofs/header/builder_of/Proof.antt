@@ -1,6 +1,5 @@
 -- `journal::header::builder_of` meets its contract. Assumes nothing.
 use borrow.Author.Needs.{needs}
-use mathlib.Core.Path.{refl}
 use Rattle.journal.proofs.Building.{built-ratio}
 use Rattle.journal.proofs.header.builder_of.Statement.{statement}
 use Rattle.journal.proofs.header.builder_of.Tie as tie

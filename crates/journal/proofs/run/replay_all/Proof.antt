@@ -1,10 +1,10 @@
 -- `journal::run::replay_all` meets its contract: no header, a header that is refused, or one that makes a breaker. Assumes nothing.
-use Prim.Native.Nat.{_+_, _*_, _≤_}
-use mathlib.Core.Path.{_≡_, refl}
+use Prim.Native.Nat.{_+_}
+use mathlib.Core.Path.{_≡_}
 use mathlib.Core.List.{_++_}
 use native.Mathlib.Omega.{arith}
 use borrow.Author.Needs.{needs}
-use lib.ListN.{length, drop}
+use lib.ListN.{drop}
 use Rattle.lines.specs.Print.{printHeader, HeaderFits}
 use Rattle.journal.proofs.Building.{IsMade, build-made, build-refused}
 use Rattle.journal.proofs.Replaying.{answers-headless, answers-refused, answers-headed}

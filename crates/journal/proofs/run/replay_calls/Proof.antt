@@ -1,11 +1,11 @@
 -- `journal::run::replay_calls` meets its contract. The loop's invariant: the breaker is sound and has the first one's settings; there is room, 38 bytes for each byte to read; nothing past the answer is written; and whatever answers the rest completes the answer. Assumes nothing.
-use Prim.Native.Nat.{ℕ, _≤_, _<_, _+_, _*_}
-use mathlib.Core.Path.{_≡_, refl, sym, ap, _∙_}
+use Prim.Native.Nat.{_≤_, _+_, _*_}
+use mathlib.Core.Path.{_≡_, refl, ap, _∙_}
 use mathlib.Core.Bool.{true}
-use mathlib.Core.List.{List, [], _++_, append-nil}
+use mathlib.Core.List.{[], _++_, append-nil}
 use native.Mathlib.Omega.{arith}
 use borrow.Author.Needs.{needs}
-use lib.ListN.{length, take, drop, length-drop, drop-of-length-le}
+use lib.ListN.{length, drop, length-drop, drop-of-length-le}
 use Rattle.breaker.specs.Record.{settings, state, sound}
 use Rattle.breaker.proofs.Record.{padded-state}
 use Rattle.lines.specs.Print.{printCall, CallFits}

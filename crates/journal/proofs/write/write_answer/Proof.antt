@@ -1,10 +1,8 @@
 -- `journal::write::write_answer` meets its contract. Assumes nothing.
-use Prim.Native.Nat.{_-_, _≤_}
-use mathlib.Core.Path.{_≡_, refl}
-use mathlib.Core.List.{List, [], _∷_}
+use mathlib.Core.Path.{refl}
+use mathlib.Core.List.{[], _∷_}
 use native.Mathlib.Omega.{arith}
 use borrow.Author.Needs.{needs}
-use lib.ListN.{length, take, drop}
 use Rattle.journal.proofs.Laid.{part-all, part-short}
 use Rattle.journal.proofs.write.write_answer.Statement.{statement}
 use Rattle.journal.proofs.write.write_answer.Tie as tie

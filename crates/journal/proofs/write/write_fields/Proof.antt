@@ -1,10 +1,10 @@
 -- `journal::write::write_fields` meets its contract. The loop's invariant: the fields behind it are laid. Assumes nothing.
-use Prim.Native.Nat.{ℕ, _≤_, _<_, _-_, _+_}
-use mathlib.Core.Path.{_≡_, refl, sym, ap, _∙_}
+use Prim.Native.Nat.{_≤_, _-_, _+_}
+use mathlib.Core.Path.{_≡_, refl, sym, _∙_}
 use native.Mathlib.Nat.{add-zero}
 use native.Mathlib.Omega.{arith}
 use borrow.Author.Needs.{needs}
-use lib.ListN.{length, take, drop, getD, length-set, length-append}
+use lib.ListN.{length, take, getD, length-set, length-append}
 use lib.Seq.{take-all}
 use Rattle.lines.specs.Print.{printFields, printDecimal}
 use Rattle.journal.specs.Laid.{laid}

@@ -1,12 +1,11 @@
 -- `journal::write::write_line` meets its contract. Assumes nothing.
-use Prim.Native.Nat.{ℕ, _≤_, _<_, _-_, _+_, _*_}
-use mathlib.Core.Path.{_≡_, refl, sym, ap, _∙_}
+use Prim.Native.Nat.{_≤_, _+_, _*_}
+use mathlib.Core.Path.{_≡_}
 use mathlib.Core.List.{_∷_, [], _++_}
 use native.Mathlib.Omega.{arith}
 use borrow.Author.Needs.{needs}
 use lib.ListN.{length, length-set, length-append}
-use Rattle.lines.specs.Print.{printFields, printDecimal}
-use Rattle.journal.specs.Laid.{laid}
+use Rattle.lines.specs.Print.{printFields}
 use Rattle.journal.proofs.Laid.{laid-head, laid-set, fields-short}
 use Rattle.journal.proofs.write.write_line.Statement.{statement}
 use Rattle.journal.proofs.write.write_line.Tie as tie

@@ -1,12 +1,11 @@
 -- `lines::digits::read_decimal` meets its contract. The loop's invariant: what the digits from `next` on add to `value` is what stands at `at`. Assumes nothing.
-use Prim.Native.Nat.{ℕ, _≤_, _<_, _-_, _+_, _*_}
-use mathlib.Core.Path.{_≡_, refl, sym, ap, _∙_}
-use mathlib.Core.Bool.{true, false}
+use Prim.Native.Nat.{_≤_, _<_, _-_, _+_, _*_}
+use mathlib.Core.Path.{_≡_, sym, _∙_}
 use native.Mathlib.Omega.{arith}
 use borrow.Author.Needs.{needs}
 use borrow.Author.Tests.{eq-eqb, ne-eqb, not-true, not-false}
 use lib.ListN.{length, drop, drop-of-length-le}
-use Rattle.lines.specs.Take.{takeDigits, takeNumber, roomFor}
+use Rattle.lines.specs.Take.{takeDigits, takeNumber}
 use Rattle.lines.proofs.Numbers.{front, room→}
 use Rattle.lines.proofs.digits.read_decimal.Statement.{statement}
 use Rattle.lines.proofs.digits.read_decimal.Tie as tie

@@ -1,10 +1,10 @@
 -- `lines::digits::read_hex16` meets its contract. The loop's invariant: what the digits left from `next` on add to `value` is what stands at `at`. Assumes nothing.
-use Prim.Native.Nat.{ℕ, _≤_, _<_, _-_, _+_, _*_, _^_}
-use mathlib.Core.Path.{_≡_, refl, sym, _∙_}
+use Prim.Native.Nat.{_≤_, _<_, _-_, _+_, _*_, _^_}
+use mathlib.Core.Path.{_≡_, sym, _∙_}
 use native.Mathlib.Omega.{arith}
 use borrow.Author.Needs.{needs}
 use borrow.Author.Tests.{lt-ltb, le-ltb}
-use lib.ListN.{length, drop}
+use lib.ListN.{drop}
 use Rattle.lines.specs.Take.{takeHex}
 use Rattle.lines.proofs.Numbers.{hex-step, hex-end, hex-fits}
 use Rattle.lines.proofs.digits.read_hex16.Statement.{statement}

@@ -1,6 +1,5 @@
 -- `lines::digits::room` meets its contract. Assumes nothing.
-use borrow.Author.Tests.{le-ltb, lt-ltb, lt-leb}
-use native.Mathlib.Omega.{arith}
+use borrow.Author.Tests.{le-ltb}
 use Rattle.lines.specs.Take.{roomFor}
 use Rattle.lines.proofs.Numbers.{room-test, room-wide}
 use Rattle.lines.proofs.digits.room.Statement.{statement}

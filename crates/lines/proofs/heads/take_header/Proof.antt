@@ -1,7 +1,6 @@
 -- `lines::heads::take_header` meets its contract. Assumes nothing.
 use Prim.Native.Nat.{_+_}
-use mathlib.Core.Path.{_≡_, refl, sym, ap, _∙_}
-use native.Mathlib.Omega.{arith}
+use mathlib.Core.Path.{_≡_, sym, ap, _∙_}
 use borrow.Author.Needs.{needs}
 use lib.ListN.{length, take, drop, getD, drop-of-length-le}
 use Rattle.lines.specs.Take.{limitsOf, takeRest, takeHeader, seenAll, got, none}

@@ -1,5 +1,5 @@
 -- `lines::values::read_values` meets its contract. The loop's invariant: the values behind it, and what is taken from `next` on by the limits left, are what is taken at `at`. Assumes nothing.
-use Prim.Native.Nat.{ℕ, _≤_, _<_, _-_, _+_}
+use Prim.Native.Nat.{_≤_, _<_, _-_}
 use mathlib.Core.Path.{_≡_, refl, sym, ap, _∙_}
 use mathlib.Core.List.{append-nil}
 use native.Mathlib.Omega.{arith}
