@@ -9,7 +9,8 @@
  * An inner limiter's reply is handed in, so it was asked first: where the breaker sheds, the caller gives the unit or reservation back.
  * To ask it only when the breaker admits, call pudvirez_admit_as, then the limiter, and pudvirez_abort_as if it refused.
  *
- * Every function answers a PudvirezTold (pudvirez_is_sound a bool): `number` is 0 where the call was not refused, else
+ * Every function answers a PudvirezTold (pudvirez_is_sound a bool, those of a wait a PudvirezWaited): `number` is 0 where the call was
+ * not refused, else
  *
  *     1  a nanoseconds field of 10^9 or more          5  a failure while Closed, with 4,096 older times left
  *     2  window or failures over 4,096                6  the breaker sheds; v1 is the delay in milliseconds
@@ -19,7 +20,25 @@
  *
  * `v1` and `v2` are the values in their order, and 0 where there is none. They are tested in the order 3, 4, 11, 1, 2; the rest as the
  * rules meet them. A call that tells 1 to 6 or 11 leaves the record and every place as they were. After 7 and 8 the admission has been
- * given back; a transition that it made stays.
+ * given back; a transition that it made stays. For the calls of a wait see below.
+ *
+ * A call may wait for its inner limiter. pudvirez_wait_start admits it and makes a PudvirezPending; each pudvirez_wait_turn takes what
+ * the host has read and says what it is to do, and the last one admits the call or gives its ticket back; pudvirez_wait_drop leaves
+ * early. Times of a wait are nanoseconds, of another clock than that of now_ms. These calls tell
+ *
+ *     1  a time over 2^62, or a wait over its bounds
+ *     3  a storage of other than 4,096 places, or turns that are no multiple of 8 numbers
+ *     4  record or list not sound
+ *     6  the breaker sheds: at the start v1 is the delay in milliseconds; after a wait too, and v2 is the 1 to refund to the inner limiter
+ *     8  the inner limiter says never; v1 is the cost 1, v2 the capacity
+ *     9  the deadline; v1 is what to give back to the inner limiter, 0 or 1
+ *    10  the limit or the turns of a run are used up, and the wait has not ended
+ *    11  a reply kind other than 1 to 3, or a wait that has ended
+ *
+ * in the order 3, 4, 11, 1, and the rest as the rules meet them. After 1, 3, 4 and 11, and after 6 at the start, record, places and wait
+ * are as they were; only a run that meets 1 or 11, and one that tells 10, leaves the wait that it reached. After 6, 8 and 9 of a turn or a
+ * run the ticket has been aborted, as pudvirez_abort_as without the trait side does, and the wait has ended; a transition that the
+ * admission made stays.
  */
 #ifndef PUDVIREZ_H
 #define PUDVIREZ_H
@@ -90,6 +109,45 @@ typedef struct {
     uint32_t required; /* cut to 1 to trials */
 } PudvirezSetting;
 
+/* A wait between two turns. Made by pudvirez_wait_start; any numbers may be handed in, and each call tests them. */
+typedef struct {
+    uint64_t phase; /* 1 looking, 2 holding a grant, any other: ended */
+    uint64_t limited; /* 0: no deadline */
+    uint64_t deadline; /* at most 2^63 */
+    uint64_t seen; /* the greatest postponement since the look, at most 2^62 */
+    uint64_t due; /* when the grant may be used, at most 2^63 + seen */
+    uint64_t zeros; /* retries of 0 in a row, counted to 5 */
+} PudvirezWait;
+
+/* A wait and the ticket that was admitted for it. */
+typedef struct {
+    PudvirezWait wait;
+    PudvirezTicket ticket;
+} PudvirezPending;
+
+/* What the host read for a turn. Of each pair the first was read before the inner limiter was asked for 1 unit, the second after it.
+ * Epochs are any numbers; the rest but the kind are nanoseconds, at most 2^62. While a grant is held nothing is asked: any known kind
+ * will do, and of the numbers only the clock, the pause and the second of each pair count. */
+typedef struct {
+    uint64_t clock;
+    uint64_t epoch_before; /* how often the limiter was resumed */
+    uint64_t epoch_after;
+    uint64_t kind; /* 1 granted, 2 retry, 3 never */
+    uint64_t duration; /* until the grant may be used, or until the retry */
+    uint64_t pause; /* what is left of a pause of the limiter, 0 if it isn't paused */
+    uint64_t postponed_before; /* by how much pauses have postponed grants, in all */
+    uint64_t postponed_after;
+} PudvirezTurn;
+
+/* What a caller of a wait is told; see above. */
+typedef struct {
+    uint32_t number;
+    uint64_t v1;
+    uint64_t v2;
+    uint64_t v3;
+    uint64_t taken; /* the turns that a run took, 0 elsewhere */
+} PudvirezWaited;
+
 /* ---- making a breaker */
 
 /* Puts a fresh breaker into record and storage, whatever they held: Closed, generation 0, every counter and place 0. Tells 0.
@@ -158,6 +216,32 @@ PudvirezTold pudvirez_refund(PudvirezBreaker *breaker, uint64_t *list, size_t pl
  * refused it leaves answers too. */
 PudvirezTold pudvirez_finish_all(PudvirezBreaker *breaker, uint64_t *list, size_t places, uint64_t now_ms, const uint64_t *generations, size_t generation_count, const bool *probes, size_t probe_count,
                                  const bool *settles, size_t settle_count, const bool *marks, size_t mark_count, uint64_t *answers, size_t answer_count);
+
+/* ---- waiting for an inner limiter; each refuses with 3 and 4 first */
+
+/* Admits a call as pudvirez_admit_as without the trait side does, and puts its ticket and a wait that looks into pending, whatever wait
+ * that held; its bool must hold 0 or 1. Tells 0. The deadline is clock + timeout; where limited is false there is none. Refuses with 1 for a clock or a timeout over 2^62,
+ * before the admission, and with 6. */
+PudvirezWaited pudvirez_wait_start(PudvirezBreaker *breaker, uint64_t *list, size_t places, PudvirezPending *pending, uint64_t now_ms, uint64_t clock, bool limited, uint64_t timeout);
+
+/* One turn of a wait. Tells 0 with what the host is to do before the next one:
+ *     v1 = 1  sleep v2 nanoseconds                       v1 = 3  yield
+ *     v1 = 2  sleep v2 nanoseconds, unless the limiter   v1 = 4  look again at once
+ *             is resumed past epoch v3                   v1 = 0  nothing: the call is admitted, v2 is the generation of its ticket and v3
+ *                                                                the probe flag (0 or 1), and the wait has ended
+ * now_ms is read where the wait ends: the breaker must still admit the ticket, else 6. Refuses with 11 and 1, and ends the wait with 6,
+ * with 8 and this capacity, or with 9. */
+PudvirezWaited pudvirez_wait_turn(PudvirezBreaker *breaker, uint64_t *list, size_t places, PudvirezPending *pending, PudvirezTurn turn, uint64_t now_ms, uint32_t capacity);
+
+/* Takes turns, each of eight numbers in the order of PudvirezTurn, until the wait ends, one is refused, or the limit or the turns are used
+ * up; `taken` counts those that were not refused. Tells 0 with v1 = 0 and the ticket as pudvirez_wait_turn does. Refuses with 3 for the
+ * turns before the storage, with 11 and 1, with 10, and ends the wait with 6, 8 or 9. */
+PudvirezWaited pudvirez_wait_run(PudvirezBreaker *breaker, uint64_t *list, size_t places, PudvirezPending *pending, const uint64_t *turns, size_t turn_numbers, uint64_t limit, uint64_t now_ms,
+                                 uint32_t capacity);
+
+/* Ends a wait before its time, and aborts its ticket. Tells 0 with v1 = 1 if a grant is held, to give back to the inner limiter, else with
+ * v1 = 0. Refuses with 11 and 1. */
+PudvirezWaited pudvirez_wait_drop(PudvirezBreaker *breaker, uint64_t *list, size_t places, PudvirezPending *pending);
 
 /* ---- calls that only read; each refuses with 3 and 4 first */
 

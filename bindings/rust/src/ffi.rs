@@ -69,6 +69,47 @@ pub(crate) struct Setting {
     pub(crate) required: u32,
 }
 
+#[repr(C)]
+#[derive(Debug, Clone, Copy, Default, PartialEq, Eq)]
+pub(crate) struct Wait {
+    pub(crate) phase: u64,
+    pub(crate) limited: u64,
+    pub(crate) deadline: u64,
+    pub(crate) seen: u64,
+    pub(crate) due: u64,
+    pub(crate) zeros: u64,
+}
+
+#[repr(C)]
+#[derive(Debug, Clone, Copy, Default, PartialEq, Eq)]
+pub(crate) struct Pending {
+    pub(crate) wait: Wait,
+    pub(crate) ticket: Ticket,
+}
+
+#[repr(C)]
+#[derive(Debug, Clone, Copy, Default, PartialEq, Eq)]
+pub(crate) struct Turn {
+    pub(crate) clock: u64,
+    pub(crate) epoch_before: u64,
+    pub(crate) epoch_after: u64,
+    pub(crate) kind: u64,
+    pub(crate) duration: u64,
+    pub(crate) pause: u64,
+    pub(crate) postponed_before: u64,
+    pub(crate) postponed_after: u64,
+}
+
+#[repr(C)]
+#[derive(Debug, Clone, Copy, Default, PartialEq, Eq)]
+pub(crate) struct Waited {
+    pub(crate) number: u32,
+    pub(crate) v1: u64,
+    pub(crate) v2: u64,
+    pub(crate) v3: u64,
+    pub(crate) taken: u64,
+}
+
 // The whole header; the safe types call a part of it, the tests the rest.
 #[allow(dead_code)]
 extern "C" {
@@ -202,6 +243,46 @@ extern "C" {
         answers: *mut u64,
         answer_count: usize,
     ) -> Told;
+
+    pub(crate) fn pudvirez_wait_start(
+        breaker: *mut Breaker,
+        list: *mut u64,
+        places: usize,
+        pending: *mut Pending,
+        now_ms: u64,
+        clock: u64,
+        limited: bool,
+        timeout: u64,
+    ) -> Waited;
+
+    pub(crate) fn pudvirez_wait_turn(
+        breaker: *mut Breaker,
+        list: *mut u64,
+        places: usize,
+        pending: *mut Pending,
+        turn: Turn,
+        now_ms: u64,
+        capacity: u32,
+    ) -> Waited;
+
+    pub(crate) fn pudvirez_wait_run(
+        breaker: *mut Breaker,
+        list: *mut u64,
+        places: usize,
+        pending: *mut Pending,
+        turns: *const u64,
+        turn_numbers: usize,
+        limit: u64,
+        now_ms: u64,
+        capacity: u32,
+    ) -> Waited;
+
+    pub(crate) fn pudvirez_wait_drop(
+        breaker: *mut Breaker,
+        list: *mut u64,
+        places: usize,
+        pending: *mut Pending,
+    ) -> Waited;
 
     pub(crate) fn pudvirez_still_admits(
         breaker: *const Breaker,

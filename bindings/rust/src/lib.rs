@@ -13,7 +13,8 @@
 //! in every order exactly when none is a failure or the successes stay below the required number.
 //! Otherwise some order closes the breaker and another opens it.
 //!
-//! The clock, and the reply of an inner limiter, are handed in. See [`Clock`] and [`Decision`].
+//! The clock, and the reply of an inner limiter, are handed in. See [`Clock`] and [`Decision`]; and
+//! [`Host`] for a call that waits, by [`acquire_waiting`](CircuitBreaker::acquire_waiting).
 #![warn(missing_docs)]
 
 mod breaker;
@@ -24,6 +25,7 @@ mod ffi;
 mod owned;
 mod permit;
 mod refused;
+mod waiting;
 
 pub use breaker::{BreakerState, CircuitBreaker};
 pub use builder::{CircuitBreakerBuilder, Trip};
@@ -31,6 +33,7 @@ pub use clock::{Clock, ManualClock, SystemClock};
 pub use decision::Decision;
 pub use permit::Permit;
 pub use refused::Refused;
+pub use waiting::{Host, Reply, Waiting};
 
 // The README's lines are tested too.
 #[cfg(doctest)]

@@ -1,10 +1,10 @@
 //! A record and its places, owned together. All the unsafe code of the crate stands here.
 //!
 //! The calls are safe: `record` is a record and `places` as many places as are told, both are borrowed
-//! for the length of the call only, and nothing else lies in them.
+//! for the length of the call only, a wait beside them too, and nothing else lies in them.
 use crate::decision::Decision;
-use crate::ffi::{self, Breaker, Setting, Ticket, Told};
-use crate::refused::{checked, Refused};
+use crate::ffi::{self, Breaker, Pending, Setting, Ticket, Told, Turn, Waited};
+use crate::refused::{checked, checked_wait, Refused};
 
 #[derive(Debug, Clone, PartialEq, Eq)]
 pub(crate) struct Owned {
@@ -83,6 +83,43 @@ impl Owned {
         Ok(told.v1)
     }
 
+    /// Starts a wait with a timeout in nanoseconds, if it has one.
+    pub(crate) fn wait_start(
+        &mut self,
+        now_ms: u64,
+        clock: u64,
+        timeout: Option<u64>,
+    ) -> Result<Pending, Refused> {
+        let (limited, timeout) = (timeout.is_some(), timeout.unwrap_or(0));
+        let mut pending = Pending::default();
+        let told = self.wait(&mut pending, |b, list, n, p| unsafe {
+            ffi::pudvirez_wait_start(b, list, n, p, now_ms, clock, limited, timeout)
+        });
+        checked_wait(told)?;
+        Ok(pending)
+    }
+
+    /// What a turn was told, which says what to give back to the inner limiter.
+    pub(crate) fn wait_turn(
+        &mut self,
+        pending: &mut Pending,
+        turn: Turn,
+        now_ms: u64,
+        capacity: u32,
+    ) -> Waited {
+        self.wait(pending, |b, list, n, p| unsafe {
+            ffi::pudvirez_wait_turn(b, list, n, p, turn, now_ms, capacity)
+        })
+    }
+
+    /// Answers the units to give back.
+    pub(crate) fn wait_drop(&mut self, pending: &mut Pending) -> Result<u64, Refused> {
+        let told = self.wait(pending, |b, list, n, p| unsafe {
+            ffi::pudvirez_wait_drop(b, list, n, p)
+        });
+        Ok(checked_wait(told)?.v1)
+    }
+
     #[cfg(test)]
     pub(crate) fn is_sound(&self) -> bool {
         unsafe { ffi::pudvirez_is_sound(&self.record, self.places.as_ptr(), self.places.len()) }
@@ -95,6 +132,16 @@ impl Owned {
     ) -> Result<Told, Refused> {
         let count = self.places.len();
         checked(call(&mut self.record, self.places.as_mut_ptr(), count))
+    }
+
+    /// Lends record, places and a wait to a call.
+    fn wait(
+        &mut self,
+        pending: &mut Pending,
+        call: impl FnOnce(*mut Breaker, *mut u64, usize, *mut Pending) -> Waited,
+    ) -> Waited {
+        let count = self.places.len();
+        call(&mut self.record, self.places.as_mut_ptr(), count, pending)
     }
 
     /// Lends record and places to a call that only reads.

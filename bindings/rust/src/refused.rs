@@ -2,7 +2,7 @@
 use core::fmt;
 use core::time::Duration;
 
-use crate::ffi::Told;
+use crate::ffi::{Told, Waited};
 
 /// Why a call was refused, with the number of document 01's table.
 ///
@@ -19,7 +19,8 @@ use crate::ffi::Told;
 #[non_exhaustive]
 #[derive(Debug, Clone, Copy, PartialEq, Eq, Hash)]
 pub enum Refused {
-    /// 1: nanoseconds of 10^9 or more. A `Duration` can't hold them.
+    /// 1: nanoseconds of 10^9 or more, which a `Duration` can't hold; or a time of a wait over 2^62
+    /// nanoseconds.
     Nanoseconds,
     /// 2: a window or a number of failures over 4,096.
     TooWide,
@@ -44,7 +45,10 @@ pub enum Refused {
         /// The inner limiter's capacity, as it was handed in.
         capacity: u64,
     },
-    /// 11: an unknown reply kind. The types of this crate can't meet it.
+    /// 9: the inner limiter did not grant the call, or not for use, before the deadline.
+    DeadlineExceeded,
+    /// 11: a turn of a wait that has ended; or an unknown reply kind, which the types of this crate
+    /// can't meet.
     UnknownReply,
 }
 
@@ -61,6 +65,7 @@ impl Refused {
             Self::CircuitOpen { .. } => 6,
             Self::InnerRetry => 7,
             Self::CostExceedsCapacity { .. } => 8,
+            Self::DeadlineExceeded => 9,
             Self::UnknownReply => 11,
         }
     }
@@ -70,7 +75,9 @@ impl fmt::Display for Refused {
     fn fmt(&self, f: &mut fmt::Formatter<'_>) -> fmt::Result {
         write!(f, "refused with {}: ", self.number())?;
         match self {
-            Self::Nanoseconds => f.write_str("nanoseconds of 10^9 or more"),
+            Self::Nanoseconds => {
+                f.write_str("nanoseconds of 10^9 or more, or a time of a wait over its bound")
+            }
             Self::TooWide => f.write_str("window or failures over 4,096"),
             Self::Places => f.write_str("a storage of other than 4,096 places"),
             Self::NotSound => f.write_str("record or list not sound"),
@@ -84,7 +91,8 @@ impl fmt::Display for Refused {
             Self::CostExceedsCapacity { cost, capacity } => {
                 write!(f, "cost {cost} exceeds the capacity {capacity}")
             }
-            Self::UnknownReply => f.write_str("an unknown reply kind"),
+            Self::DeadlineExceeded => f.write_str("the deadline"),
+            Self::UnknownReply => f.write_str("an unknown reply kind, or a wait that has ended"),
         }
     }
 }
@@ -111,4 +119,17 @@ pub(crate) fn checked(told: Told) -> Result<Told, Refused> {
         11 => Refused::UnknownReply,
         other => unreachable!("the C interface tells no number {other}"),
     })
+}
+
+/// What a call of a wait was told, if it is no refusal.
+pub(crate) fn checked_wait(told: Waited) -> Result<Waited, Refused> {
+    if told.number == 9 {
+        return Err(Refused::DeadlineExceeded);
+    }
+    checked(Told {
+        number: told.number,
+        v1: told.v1,
+        v2: told.v2,
+    })?;
+    Ok(told)
 }

@@ -53,10 +53,40 @@ static void records(void)
     FIELD(PudvirezTold, v2);
 }
 
+static void waits(void)
+{
+    WHOLE(PudvirezWait);
+    FIELD(PudvirezWait, phase);
+    FIELD(PudvirezWait, limited);
+    FIELD(PudvirezWait, deadline);
+    FIELD(PudvirezWait, seen);
+    FIELD(PudvirezWait, due);
+    FIELD(PudvirezWait, zeros);
+    WHOLE(PudvirezPending);
+    FIELD(PudvirezPending, wait);
+    FIELD(PudvirezPending, ticket);
+    WHOLE(PudvirezTurn);
+    FIELD(PudvirezTurn, clock);
+    FIELD(PudvirezTurn, epoch_before);
+    FIELD(PudvirezTurn, epoch_after);
+    FIELD(PudvirezTurn, kind);
+    FIELD(PudvirezTurn, duration);
+    FIELD(PudvirezTurn, pause);
+    FIELD(PudvirezTurn, postponed_before);
+    FIELD(PudvirezTurn, postponed_after);
+    WHOLE(PudvirezWaited);
+    FIELD(PudvirezWaited, number);
+    FIELD(PudvirezWaited, v1);
+    FIELD(PudvirezWaited, v2);
+    FIELD(PudvirezWaited, v3);
+    FIELD(PudvirezWaited, taken);
+}
+
 int main(void)
 {
     printf("places %d\n", PUDVIREZ_PLACES);
     settings();
     records();
+    waits();
     return 0;
 }

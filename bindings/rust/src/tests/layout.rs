@@ -3,7 +3,9 @@ use core::mem::{align_of, offset_of, size_of, size_of_val};
 use std::path::{Path, PathBuf};
 use std::process::Command;
 
-use crate::ffi::{Breaker, Config, Setting, Shared, Ticket, Told, PLACES};
+use crate::ffi::{
+    Breaker, Config, Pending, Setting, Shared, Ticket, Told, Turn, Wait, Waited, PLACES,
+};
 
 /// The lines that tests/layout.c prints for a struct.
 macro_rules! lines {
@@ -31,6 +33,11 @@ fn rust_side() -> Vec<String> {
         lines!(Breaker: config, shared),
         lines!(Ticket: generation, probe),
         lines!(Told: number, v1, v2),
+        lines!(Wait: phase, limited, deadline, seen, due, zeros),
+        lines!(Pending: wait, ticket),
+        lines!(Turn: clock, epoch_before, epoch_after, kind, duration, pause, postponed_before,
+            postponed_after),
+        lines!(Waited: number, v1, v2, v3, taken),
     ];
     parts.concat()
 }
