@@ -285,6 +285,11 @@ impl<'a, C: Clock, H: Host> Waiting<'a, C, H> {
         None
     }
 
+    #[cfg(test)]
+    pub(crate) fn host_mut(&mut self) -> &mut H {
+        &mut self.host
+    }
+
     fn give_back(&mut self, units: u64) {
         if units > 0 {
             self.host.refund(units);

@@ -120,7 +120,7 @@ fn finish_all(b: *mut Breaker, l: *mut u64, n: usize, marks: usize) -> (Told, u6
 }
 
 /// The bytes of every field. Those between the fields say nothing.
-fn bytes(b: &Breaker) -> Vec<u8> {
+pub(super) fn bytes(b: &Breaker) -> Vec<u8> {
     let (c, h) = (&b.config, &b.shared);
     let mut all = vec![c.kind, h.state];
     for n in [
@@ -150,7 +150,7 @@ fn bytes(b: &Breaker) -> Vec<u8> {
 }
 
 /// A closed Ratio breaker with the outcomes failed, good; and a storage with one place too many.
-fn start() -> (Breaker, Vec<u64>) {
+pub(super) fn start() -> (Breaker, Vec<u64>) {
     let (mut b, mut list) = (Breaker::default(), vec![0; PLACES + 1]);
     let l = list.as_mut_ptr();
     let told = unsafe {
@@ -192,7 +192,7 @@ fn refused(
 }
 
 /// Records and lists that are not sound, each by one change of the start.
-fn unsound() -> Vec<(Breaker, Vec<u64>)> {
+pub(super) fn unsound() -> Vec<(Breaker, Vec<u64>)> {
     let changes: [fn(&mut Breaker, &mut Vec<u64>); 12] = [
         |b, _| b.config.kind = 9,
         |b, _| b.config.limit = 4097,

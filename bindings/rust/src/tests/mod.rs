@@ -4,6 +4,8 @@ mod layout;
 mod misuse;
 mod orders;
 mod threads;
+mod wait_rows;
+mod waits;
 
 use core::time::Duration;
 
