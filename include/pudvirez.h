@@ -220,8 +220,8 @@ PudvirezTold pudvirez_finish_all(PudvirezBreaker *breaker, uint64_t *list, size_
 /* ---- waiting for an inner limiter; each refuses with 3 and 4 first */
 
 /* Admits a call as pudvirez_admit_as without the trait side does, and puts its ticket and a wait that looks into pending, whatever wait
- * that held; its bool must hold 0 or 1. Tells 0. The deadline is clock + timeout; where limited is false there is none. Refuses with 1 for a clock or a timeout over 2^62,
- * before the admission, and with 6. */
+ * that held (its bool must hold 0 or 1). Tells 0. The deadline is clock + timeout; where limited is false there is none. Refuses with 1
+ * for a clock or a timeout over 2^62, before the admission, and with 6. */
 PudvirezWaited pudvirez_wait_start(PudvirezBreaker *breaker, uint64_t *list, size_t places, PudvirezPending *pending, uint64_t now_ms, uint64_t clock, bool limited, uint64_t timeout);
 
 /* One turn of a wait. Tells 0 with what the host is to do before the next one:
