@@ -4,7 +4,7 @@ use mathlib.Core.Path.{_≡_, refl, sym, ap, _∙_}
 use mathlib.Core.List.{List, [], _∷_}
 use lib.Dec.{eqb}
 use Rattle.error.specs.Choice.{if_then_else_}
-use Rattle.error.specs.Told.{Told as Answer, tell, refused}
+use Rattle.error.specs.Told.{Told as Answer, tell, numberOf, refused}
 use Rattle.error.specs.declared.Refusal.{Refusal}
 use Rattle.error.specs.declared.Refusal.the-variants.{Time, Limit, Storage, Unsound, Full, Turn}
 use Rattle.breaker.specs.declared.Admission.{Admission}
@@ -68,51 +68,51 @@ kindWidth delayed n v =
 
 -- ---- the eight answers
 
--- a refusal has no values, whatever the width says of 0 and of 6 and on
-refused-back : (width : ℕ → ℕ → Width) (r : Refusal) → width 1 0 ≡ none → width 2 0 ≡ none → width 3 0 ≡ none → width 4 0 ≡ none → width 5 0 ≡ none → width 11 0 ≡ none → restored width (packed (refused r)) ≡ refused r
-refused-back width Time p1 p2 p3 p4 p5 p11 = rw p1
-refused-back width Limit p1 p2 p3 p4 p5 p11 = rw p2
-refused-back width Storage p1 p2 p3 p4 p5 p11 = rw p3
-refused-back width Unsound p1 p2 p3 p4 p5 p11 = rw p4
-refused-back width Full p1 p2 p3 p4 p5 p11 = rw p5
-refused-back width Turn p1 p2 p3 p4 p5 p11 = rw p11
+-- a reading of the number alone that is right for each refusal is right for all
+pub refused-back : (back : ℕ → Answer) (r : Refusal) → back 1 ≡ tell 1 [] → back 2 ≡ tell 2 [] → back 3 ≡ tell 3 [] → back 4 ≡ tell 4 [] → back 5 ≡ tell 5 [] → back 11 ≡ tell 11 [] → back (numberOf r) ≡ refused r
+refused-back back Time p1 p2 p3 p4 p5 p11 = p1
+refused-back back Limit p1 p2 p3 p4 p5 p11 = p2
+refused-back back Storage p1 p2 p3 p4 p5 p11 = p3
+refused-back back Unsound p1 p2 p3 p4 p5 p11 = p4
+refused-back back Full p1 p2 p3 p4 p5 p11 = p5
+refused-back back Turn p1 p2 p3 p4 p5 p11 = p11
 
 pub admission-back : (a : Admission) → restored ticketWidth (packed (admissionTold a)) ≡ admissionTold a
 admission-back (Admission·is.Granted t) = refl
 admission-back (Admission·is.Shed d) = refl
-admission-back (Admission·is.Refused r) = refused-back ticketWidth r refl refl refl refl refl refl
+admission-back (Admission·is.Refused r) = refused-back (λ n. restored ticketWidth (packed (tell n []))) r refl refl refl refl refl refl
 
 pub finished-back : (a : Finished) → restored delayWidth (packed (finishedTold a)) ≡ finishedTold a
 finished-back Finished·is.Done = refl
-finished-back (Finished·is.Refused r) = refused-back delayWidth r refl refl refl refl refl refl
+finished-back (Finished·is.Refused r) = refused-back (λ n. restored delayWidth (packed (tell n []))) r refl refl refl refl refl refl
 
 pub tried-back : (a : Tried) → restored ticketWidth (packed (triedTold a)) ≡ triedTold a
 tried-back (Tried·is.Granted t) = refl
 tried-back (Tried·is.Shed d) = refl
 tried-back Tried·is.Retry = refl
 tried-back (Tried·is.Impossible cost capacity) = refl
-tried-back (Tried·is.Refused r) = refused-back ticketWidth r refl refl refl refl refl refl
+tried-back (Tried·is.Refused r) = refused-back (λ n. restored ticketWidth (packed (tell n []))) r refl refl refl refl refl refl
 
 pub standing-back : (a : Standing) → restored delayWidth (packed (standingTold a)) ≡ standingTold a
 standing-back Standing·is.Admits = refl
 standing-back (Standing·is.Shed d) = refl
-standing-back (Standing·is.Refused r) = refused-back delayWidth r refl refl refl refl refl refl
+standing-back (Standing·is.Refused r) = refused-back (λ n. restored delayWidth (packed (tell n []))) r refl refl refl refl refl refl
 
 pub notice-back : (a : Notice) → restored countWidth (packed (noticeTold a)) ≡ noticeTold a
 notice-back (Notice·is.Refund cost) = refl
-notice-back (Notice·is.Refused r) = refused-back countWidth r refl refl refl refl refl refl
+notice-back (Notice·is.Refused r) = refused-back (λ n. restored countWidth (packed (tell n []))) r refl refl refl refl refl refl
 
 pub decided-back : (a : Decided) → restored (kindWidth 2) (packed (decidedTold a)) ≡ decidedTold a
 decided-back (Decided·is.Is Decision·is.Acquired) = refl
 decided-back (Decided·is.Is (Decision·is.Retry d)) = refl
 decided-back (Decided·is.Is Decision·is.Impossible) = refl
-decided-back (Decided·is.Refused r) = refused-back (kindWidth 2) r refl refl refl refl refl refl
+decided-back (Decided·is.Refused r) = refused-back (λ n. restored (kindWidth 2) (packed (tell n []))) r refl refl refl refl refl refl
 
 pub reserved-back : (a : Reserved) → restored (kindWidth 1) (packed (reservedTold a)) ≡ reservedTold a
 reserved-back (Reserved·is.Is (Reservation·is.Wait d)) = refl
 reserved-back (Reserved·is.Is Reservation·is.Nothing) = refl
-reserved-back (Reserved·is.Refused r) = refused-back (kindWidth 1) r refl refl refl refl refl refl
+reserved-back (Reserved·is.Refused r) = refused-back (λ n. restored (kindWidth 1) (packed (tell n []))) r refl refl refl refl refl refl
 
 pub counted-back : (a : Counted) → restored countWidth (packed (countedTold a)) ≡ countedTold a
 counted-back (Counted·is.Count n) = refl
-counted-back (Counted·is.Refused r) = refused-back countWidth r refl refl refl refl refl refl
+counted-back (Counted·is.Refused r) = refused-back (λ n. restored countWidth (packed (tell n []))) r refl refl refl refl refl refl

@@ -4,9 +4,7 @@ use mathlib.Core.Path.{_≡_, refl, sym, ap, _∙_}
 use mathlib.Core.List.{List, [], _∷_}
 use lib.Dec.{eqb}
 use Rattle.error.specs.Choice.{if_then_else_}
-use Rattle.error.specs.Told.{Told as Answer, tell, refused}
-use Rattle.error.specs.declared.Refusal.{Refusal}
-use Rattle.error.specs.declared.Refusal.the-variants.{Time, Limit, Storage, Unsound, Full, Turn}
+use Rattle.error.specs.Told.{Told as Answer, tell}
 use Rattle.wait.specs.declared.Act.the-variants.{Sleep, SleepUnlessResumed, Yield, LookAgain}
 use Rattle.wait.specs.declared.Dropped.{Dropped}
 use Rattle.wait.specs.declared.Dropped.the-variants as Dropped·is
@@ -22,6 +20,7 @@ use Rattle.waiting.specs.declared.Course.the-variants as Course·is
 use Rattle.waiting.specs.Answers.{begunTold, completedTold, awaitedTold, courseTold}
 use Rattle.capi.specs.declared.Waited.{Waited}
 use Rattle.capi.specs.Waits.{packedWait}
+use Rattle.capi.proofs.Packed.{refused-back}
 
 -- how many values an answer has, by its number and its first value
 pub data Width : Type 0 where
@@ -66,19 +65,10 @@ droppedWidth n v = if eqb n 0 then one else none
 
 -- ---- the answers of a wait, whatever was taken
 
--- a refusal has no values, whatever the width says of 0 and of 6 and on
-refused-back : (width : ℕ → ℕ → Width) (r : Refusal) (n : ℕ) → width 1 0 ≡ none → width 2 0 ≡ none → width 3 0 ≡ none → width 4 0 ≡ none → width 5 0 ≡ none → width 11 0 ≡ none → restored width (packedWait (refused r) n) ≡ refused r
-refused-back width Time n p1 p2 p3 p4 p5 p11 = rw p1
-refused-back width Limit n p1 p2 p3 p4 p5 p11 = rw p2
-refused-back width Storage n p1 p2 p3 p4 p5 p11 = rw p3
-refused-back width Unsound n p1 p2 p3 p4 p5 p11 = rw p4
-refused-back width Full n p1 p2 p3 p4 p5 p11 = rw p5
-refused-back width Turn n p1 p2 p3 p4 p5 p11 = rw p11
-
 pub begun-back : (a : Begun) (n : ℕ) → restored begunWidth (packedWait (begunTold a) n) ≡ begunTold a
 begun-back Begun·is.Waits n = refl
 begun-back (Begun·is.Shed d) n = refl
-begun-back (Begun·is.Refused r) n = refused-back begunWidth r n refl refl refl refl refl refl
+begun-back (Begun·is.Refused r) n = refused-back (λ k. restored begunWidth (packedWait (tell k []) n)) r refl refl refl refl refl refl
 
 pub completed-back : (e : Completed) (n : ℕ) → restored waitWidth (packedWait (completedTold e) n) ≡ completedTold e
 completed-back (Completed·is.Admitted t) n = refl
@@ -92,12 +82,12 @@ awaited-back (Awaited·is.Next (SleepUnlessResumed nanos epoch)) n = refl
 awaited-back (Awaited·is.Next Yield) n = refl
 awaited-back (Awaited·is.Next LookAgain) n = refl
 awaited-back (Awaited·is.Ends e) n = completed-back e n
-awaited-back (Awaited·is.Refused r) n = refused-back waitWidth r n refl refl refl refl refl refl
+awaited-back (Awaited·is.Refused r) n = refused-back (λ k. restored waitWidth (packedWait (tell k []) n)) r refl refl refl refl refl refl
 
 pub course-back : (a : Course) (n : ℕ) → restored waitWidth (packedWait (courseTold a) n) ≡ courseTold a
 course-back (Course·is.Ends e) n = completed-back e n
 course-back Course·is.Unfinished n = refl
-course-back (Course·is.Refused r) n = refused-back waitWidth r n refl refl refl refl refl refl
+course-back (Course·is.Refused r) n = refused-back (λ k. restored waitWidth (packedWait (tell k []) n)) r refl refl refl refl refl refl
 
 -- a run's course and its count, both: what two runs are told is equal only if these are
 pub run-known : (a b : Course) (m n : ℕ) → packedWait (courseTold a) m ≡ packedWait (courseTold b) n → (courseTold a ≡ courseTold b) × (m ≡ n)
@@ -105,4 +95,4 @@ run-known a b m n = known-by waitWidth (courseTold a) (courseTold b) m n (course
 
 pub dropped-back : (a : Dropped) (n : ℕ) → restored droppedWidth (packedWait (droppedTold a) n) ≡ droppedTold a
 dropped-back (Dropped·is.GiveBack back) n = refl
-dropped-back (Dropped·is.Refused r) n = refused-back droppedWidth r n refl refl refl refl refl refl
+dropped-back (Dropped·is.Refused r) n = refused-back (λ k. restored droppedWidth (packedWait (tell k []) n)) r refl refl refl refl refl refl
