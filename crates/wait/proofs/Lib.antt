@@ -3,3 +3,4 @@ pub mod Limits
 pub mod OneToOne
 pub mod Steps
 pub mod Walks
+pub mod Runs

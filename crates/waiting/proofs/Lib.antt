@@ -1,2 +1,3 @@
 -- Laws of waits before a breaker.
 pub mod Steps
+pub mod Keeps
