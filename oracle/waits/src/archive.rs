@@ -147,7 +147,7 @@ impl Archive {
         let taken = run.turns.len();
         let (numbers, limit) = self.buffer(run);
         let last = run.turns.last().copied().unwrap_or_default();
-        let waited = (self.runs).run(&numbers, limit, last.now_ms, last.capacity.into());
+        let waited = (self.runs).run(&numbers, limit, last.now_ms, last.capacity);
         self.counts = (self.counts.0 + 1, self.counts.1 + waited.taken);
         let event = (run.from + taken).saturating_sub(1);
         let (answer, after) = match run.ends {

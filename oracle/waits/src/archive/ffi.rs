@@ -165,7 +165,7 @@ unsafe extern "C" {
         pending: *mut Pending,
         turn: Turn,
         now_ms: u64,
-        capacity: u64,
+        capacity: u32,
     ) -> Waited;
 
     pub fn pudvirez_wait_run(
@@ -177,7 +177,7 @@ unsafe extern "C" {
         count: usize,
         limit: u64,
         now_ms: u64,
-        capacity: u64,
+        capacity: u32,
     ) -> Waited;
 
     pub fn pudvirez_wait_drop(

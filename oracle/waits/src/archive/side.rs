@@ -92,12 +92,12 @@ impl Side {
                 &mut self.pending,
                 turn(handed),
                 handed.now_ms,
-                handed.capacity.into(),
+                handed.capacity,
             )
         }
     }
 
-    pub fn run(&mut self, turns: &[u64], limit: u64, now_ms: u64, capacity: u64) -> Waited {
+    pub fn run(&mut self, turns: &[u64], limit: u64, now_ms: u64, capacity: u32) -> Waited {
         let list = self.list.as_mut_ptr();
         // SAFETY: as for a start, and the turns are a slice.
         unsafe {
