@@ -3,6 +3,7 @@ ghost use mathlib.Core.Path.{_≡_};
 ghost use mathlib.Core.Bool.{true};
 ghost use Prim.Native.Nat.{ℕ, _+_, _<_};
 ghost use lib.ListN.{length, getD};
+use breaker::Breaker;
 use breaker::Shared;
 use trip::Config;
 
@@ -41,14 +42,14 @@ fn item(n: &[u64], at: usize) -> u64 {
     n[at]
 }
 
-fn put(list: &mut [u64], at: usize, value: u64) {
-    if at < list.len() {
+fn put(list: &mut Places, at: usize, value: u64) {
+    if at < 4096 {
         list[at] = value;
     }
 }
 
 // Takes the first `k` items away: the others move to the front, and zeros follow.
-pub(crate) fn pop(list: &mut [u64], k: usize) {
+pub(crate) fn pop(list: &mut Places, k: usize) {
     let mut i: usize = 0;
     while i < 4096 {
         let value = item(list, std::num::wrapping_add_usize(i, k));
@@ -58,7 +59,7 @@ pub(crate) fn pop(list: &mut [u64], k: usize) {
 }
 
 // Writes `count` numbers of `n`, from `from` on, to the places from `to` on.
-pub(crate) fn push(list: &mut [u64], to: usize, n: &[u64], from: usize, count: usize) {
+pub(crate) fn push(list: &mut Places, to: usize, n: &[u64], from: usize, count: usize) {
     let mut i: usize = 0;
     while i < count {
         put(
@@ -94,4 +95,23 @@ pub(crate) fn shared_numbers(h: Shared) -> [u64; 8] {
         h.open_until,
         h.len as u64,
     ]
+}
+
+// Whether the record has these numbers, and every place is as expected.
+pub(crate) fn agrees(
+    b: Breaker,
+    config: [u64; 8],
+    shared: [u64; 8],
+    list: &Places,
+    want: &Places,
+) -> bool {
+    let settings = config_numbers(b.config);
+    let rest = shared_numbers(b.shared);
+    if !stands(&settings, &config, 0) {
+        return false;
+    }
+    if !stands(&rest, &shared, 0) {
+        return false;
+    }
+    stands(list, want, 0)
 }

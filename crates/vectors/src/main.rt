@@ -1,11 +1,16 @@
-// Replays a sample of calls with the answers that the Rust gave (oracle/README.md, seed 1), and counts the lines that differ.
+// Replays the samples of calls and of waits with the answers that the Rust gave (oracle/README.md, seed 1), and counts the lines that differ.
 mod calls;
 mod compare;
 mod lines;
+mod refusals;
 mod replay;
 mod settings;
+mod tallies;
 mod told;
+mod wait_lines;
+mod waits;
 
+use compare::Places;
 use compare::places;
 use libc::STDIN_FILENO;
 use libc::STDOUT_FILENO;
@@ -13,12 +18,13 @@ use lines::blank_line;
 use lines::line_end;
 use lines::numbers;
 use replay::Run;
-use replay::Tallies;
-use replay::tally;
+use tallies::Tallies;
+use tallies::no_tallies;
+use tallies::tally;
 
-// Room for the sample. One that does not fit is cut, and its counts differ.
-fn input_buffer() -> [u8; 1600000] {
-    [0; 1600000]
+// Room for the samples. What does not fit is cut, and its counts differ.
+fn input_buffer() -> [u8; 2700000] {
+    [0; 2700000]
 }
 
 // A name and a number on a line.
@@ -38,23 +44,21 @@ fn differs(line: u64, t: &mut Tallies) {
 }
 
 // Replays one line of text.
-fn turn(run: Run, list: &mut [u64], want: &mut [u64], text: &[u8], t: &mut Tallies) -> Run {
+fn turn(run: Run, list: &mut Places, want: &mut Places, text: &[u8], t: &mut Tallies) -> Run {
     let mut n = blank_line();
     let count = numbers(text, &mut n);
     replay::replay(run, list, want, &n, count, t)
 }
 
 fn replay_all(s: &[u8], t: &mut Tallies) {
-    let mut storage = places();
-    let mut expected = places();
-    let list: &mut [u64] = &mut storage;
-    let want: &mut [u64] = &mut expected;
+    let mut list = places();
+    let mut want = places();
     let mut run = replay::start();
     let mut at: usize = 0;
     let mut line: u64 = 0;
     while at < s.len() {
         let end = line_end(s, at);
-        run = turn(run, list, want, &s[at..end], t);
+        run = turn(run, &mut list, &mut want, &s[at..end], t);
         line += 1;
         if !run.same {
             differs(line, t);
@@ -84,6 +88,26 @@ fn show_trait_side(t: &Tallies) {
     show(b"refund", t[15]);
 }
 
+fn show_waits(t: &Tallies) {
+    show(b"starts", t[21]);
+    show(b"turns", t[22]);
+    show(b"drops", t[23]);
+    show(b"calls between turns", t[24]);
+    show(b"runs", t[25]);
+}
+
+// How often waits were told each number of document 01's table.
+fn show_told(t: &Tallies) {
+    show(b"waits told 1", t[27]);
+    show(b"waits told 3", t[29]);
+    show(b"waits told 4", t[30]);
+    show(b"waits told 6", t[32]);
+    show(b"waits told 8", t[34]);
+    show(b"waits told 9", t[35]);
+    show(b"waits told 10", t[36]);
+    show(b"waits told 11", t[37]);
+}
+
 fn show_totals(t: &Tallies) {
     show(b"steps", t[16]);
     show(b"builds", t[17]);
@@ -95,9 +119,11 @@ fn show_totals(t: &Tallies) {
 fn main() {
     let mut input = input_buffer();
     let n = io::read_full(STDIN_FILENO, &mut input);
-    let mut t = [0u64; 21];
+    let mut t = no_tallies();
     replay_all(&input[..n], &mut t);
     show_calls(&t);
     show_trait_side(&t);
+    show_waits(&t);
+    show_told(&t);
     show_totals(&t);
 }

@@ -1,7 +1,9 @@
-// The three kinds of line: a build, a state and a call. Each is compared with what the sample expects.
+// The lines of a breaker: a build, a state and a call. Each is compared with what the sample expects.
 use crate::calls;
 use crate::calls::Called;
 use crate::calls::narrow;
+use crate::compare::Places;
+use crate::compare::agrees;
 use crate::compare::config_numbers;
 use crate::compare::pop;
 use crate::compare::push;
@@ -9,10 +11,16 @@ use crate::compare::shared_numbers;
 use crate::compare::stands;
 use crate::lines::Line;
 use crate::settings;
+use crate::tallies::Tallies;
+use crate::tallies::tally;
 use crate::told;
+use crate::wait_lines;
+use crate::wait_lines::is_wait;
+use crate::waits::no_pending;
 use breaker::Breaker;
 use breaker::Shared;
 use trip::Config;
+use waiting::Pending;
 
 // Our record, and what the sample expects beside the places.
 pub(crate) struct Run {
@@ -21,17 +29,10 @@ pub(crate) struct Run {
     pub(crate) config: [u64; 8],
     // the length of the list
     pub(crate) len: u64,
+    // the wait under way and its ticket, or one that has ended
+    pub(crate) pending: Pending,
     // whether the last line agreed
     pub(crate) same: bool,
-}
-
-// Counts: 1 to 15 the operations, 16 calls, 17 builds, 18 states, 19 refusals, 20 differences.
-pub(crate) type Tallies = [u64; 21];
-
-pub(crate) fn tally(t: &mut Tallies, i: usize) {
-    if i < 21 {
-        t[i] = std::num::wrapping_add_u64(t[i], 1);
-    }
 }
 
 // Before the first build: a record of zeros, which is not sound.
@@ -61,6 +62,7 @@ pub(crate) fn start() -> Run {
         },
         config: [0; 8],
         len: 0,
+        pending: no_pending(),
         same: true,
     }
 }
@@ -68,10 +70,12 @@ pub(crate) fn start() -> Run {
 fn unlike(run: Run) -> Run {
     let breaker = run.breaker;
     let config = run.config;
+    let pending = run.pending;
     Run {
         breaker,
         config,
         len: run.len,
+        pending,
         same: false,
     }
 }
@@ -85,24 +89,8 @@ fn expected(n: &Line) -> [u64; 8] {
     [n[11], n[12], n[13], n[14], n[15], n[16], n[17], n[18]]
 }
 
-// Whether the record has these numbers, and every place is as expected.
-fn agrees(b: Breaker, config: [u64; 8], shared: [u64; 8], list: &[u64], want: &[u64]) -> bool {
-    let settings = config_numbers(b.config);
-    let rest = shared_numbers(b.shared);
-    if !stands(&settings, &config, 0) {
-        return false;
-    }
-    if !stands(&rest, &shared, 0) {
-        return false;
-    }
-    if list.len() != want.len() {
-        return false;
-    }
-    stands(list, want, 0)
-}
-
 // Whether such a call was refused with this number and changed nothing.
-fn refused(b: Breaker, r: Called, number: u64, list: &[u64], want: &[u64]) -> bool {
+fn refused(b: Breaker, r: Called, number: u64, list: &Places, want: &Places) -> bool {
     let got = r.told;
     let only = [number, 0, 0, 0];
     if !stands(&got, &only, 0) {
@@ -135,15 +123,20 @@ fn with_state(b: Breaker, state: u8) -> Breaker {
     }
 }
 
+// Makes a call in the first 4,095 places.
+fn call_short(b: Breaker, list: &mut [u64], n: &Line) -> Called {
+    if list.len() < 4095 {
+        return calls::call(b, list, n);
+    }
+    calls::call(b, &mut list[0..4095], n)
+}
+
 // Whether the call is refused with 4,095 places, by 3, and with a state of 3, by 4.
-fn refuses(b: Breaker, list: &mut [u64], want: &[u64], n: &Line, t: &mut Tallies) -> bool {
+fn refuses(b: Breaker, list: &mut Places, want: &Places, n: &Line, t: &mut Tallies) -> bool {
     if n[1] == 14 {
         return true;
     }
-    if list.len() < 4095 {
-        return false;
-    }
-    let short = calls::call(b, &mut list[0..4095], n);
+    let short = call_short(b, list, n);
     tally(t, 19);
     if !refused(b, short, 3, list, want) {
         return false;
@@ -155,7 +148,7 @@ fn refuses(b: Breaker, list: &mut [u64], want: &[u64], n: &Line, t: &mut Tallies
 }
 
 // The expected list after a call, by the line's popped and pushed alone; its length.
-fn follow(want: &mut [u64], len: u64, n: &Line) -> u64 {
+fn follow(want: &mut Places, len: u64, n: &Line) -> u64 {
     let popped = n[19];
     let pushed = n[20];
     let kept = std::num::wrapping_sub_u64(len, popped);
@@ -178,8 +171,16 @@ fn is_call(n: &Line, count: usize, len: u64) -> bool {
     calls::takes(n)
 }
 
+// Between turns only operations 1 to 6 are made.
+fn is_between(n: &Line, count: usize, len: u64) -> bool {
+    if 6 < n[1] {
+        return false;
+    }
+    is_call(n, count, len)
+}
+
 // Whether the answer, the record and the places are those of the line.
-fn answers(r: Called, config: [u64; 8], n: &Line, list: &[u64], want: &[u64]) -> bool {
+fn answers(r: Called, config: [u64; 8], n: &Line, list: &Places, want: &Places) -> bool {
     let got = r.told;
     if !stands(&got, n, 7) {
         return false;
@@ -188,11 +189,12 @@ fn answers(r: Called, config: [u64; 8], n: &Line, list: &[u64], want: &[u64]) ->
 }
 
 // Makes a call, after its refusals, and compares it.
-fn call(run: Run, list: &mut [u64], want: &mut [u64], n: &Line, t: &mut Tallies) -> Run {
+fn call(run: Run, list: &mut Places, want: &mut Places, n: &Line, t: &mut Tallies) -> Run {
     tally(t, 16);
     tally(t, index(n[1]));
     let before = run.breaker;
     let config = run.config;
+    let pending = run.pending;
     let refused = refuses(before, list, want, n, t);
     let r = calls::call(before, list, n);
     let breaker = r.breaker;
@@ -207,6 +209,7 @@ fn call(run: Run, list: &mut [u64], want: &mut [u64], n: &Line, t: &mut Tallies)
         breaker,
         config,
         len,
+        pending,
         same,
     }
 }
@@ -242,13 +245,13 @@ fn shared_of(n: &Line) -> Shared {
 }
 
 // Writes the items of a state's line, and zeros behind them.
-fn fill(list: &mut [u64], n: &Line) {
+fn fill(list: &mut Places, n: &Line) {
     pop(list, 4096);
     push(list, 0, n, 9, index(n[8]));
 }
 
 // Sets the record and the places. Every state of the sample is sound.
-fn state(run: Run, list: &mut [u64], want: &mut [u64], n: &Line) -> Run {
+fn state(run: Run, list: &mut Places, want: &mut Places, n: &Line) -> Run {
     fill(list, n);
     fill(want, n);
     let before = run.breaker;
@@ -262,12 +265,13 @@ fn state(run: Run, list: &mut [u64], want: &mut [u64], n: &Line) -> Run {
         breaker,
         config,
         len: n[8],
+        pending: no_pending(),
         same: circuit::is_sound(breaker, list),
     }
 }
 
 // Builds a breaker in the record and the storage that the last one left.
-fn build(run: Run, list: &mut [u64], want: &mut [u64], n: &Line) -> Run {
+fn build(run: Run, list: &mut Places, want: &mut Places, n: &Line) -> Run {
     let before = run.breaker;
     let r = circuit::build(before, list, settings::builder(n));
     let breaker = r.breaker;
@@ -284,6 +288,7 @@ fn build(run: Run, list: &mut [u64], want: &mut [u64], n: &Line) -> Run {
         breaker,
         config,
         len: 0,
+        pending: no_pending(),
         same,
     }
 }
@@ -291,8 +296,8 @@ fn build(run: Run, list: &mut [u64], want: &mut [u64], n: &Line) -> Run {
 // Replays a line of so many numbers.
 pub(crate) fn replay(
     run: Run,
-    list: &mut [u64],
-    want: &mut [u64],
+    list: &mut Places,
+    want: &mut Places,
     n: &Line,
     count: usize,
     t: &mut Tallies,
@@ -314,6 +319,15 @@ pub(crate) fn replay(
         if is_call(n, count, run.len) {
             return call(run, list, want, n, t);
         }
+    }
+    if kind == 6 {
+        if is_between(n, count, run.len) {
+            tally(t, 24);
+            return call(run, list, want, n, t);
+        }
+    }
+    if is_wait(n, count) {
+        return wait_lines::replay(run, list, want, n, t);
     }
     unlike(run)
 }

@@ -11,6 +11,12 @@ use breaker::Standing;
 use breaker::Ticket;
 use breaker::Tried;
 use error::Refusal;
+use wait::Act;
+use wait::Dropped;
+use waiting::Awaited;
+use waiting::Begun;
+use waiting::Completed;
+use waiting::Course;
 
 // The number and three values.
 pub(crate) type Told = [u64; 4];
@@ -88,5 +94,54 @@ pub(crate) fn counted(a: Counted) -> Told {
     match a {
         Counted::Count(n) => [0, n, 0, 0],
         Counted::Refused(r) => refused(r),
+    }
+}
+
+pub(crate) fn begun(a: Begun) -> Told {
+    match a {
+        Begun::Waits => [0, 0, 0, 0],
+        Begun::Shed(d) => [6, d.ms, 0, 0],
+        Begun::Refused(r) => refused(r),
+    }
+}
+
+fn next(a: Act) -> Told {
+    match a {
+        Act::Sleep(ns) => [0, 1, ns, 0],
+        Act::SleepUnlessResumed(ns, epoch) => [0, 2, ns, epoch],
+        Act::Yield => [0, 3, 0, 0],
+        Act::LookAgain => [0, 4, 0, 0],
+    }
+}
+
+fn completed(a: Completed) -> Told {
+    match a {
+        Completed::Admitted(t) => [0, 0, t.generation, t.probe as u64],
+        Completed::Shed(d, refund) => [6, d.ms, refund, 0],
+        Completed::Impossible(cost, capacity) => [8, cost, capacity, 0],
+        Completed::Deadline(back) => [9, back, 0, 0],
+    }
+}
+
+pub(crate) fn awaited(a: Awaited) -> Told {
+    match a {
+        Awaited::Next(act) => next(act),
+        Awaited::Ends(e) => completed(e),
+        Awaited::Refused(r) => refused(r),
+    }
+}
+
+pub(crate) fn course(a: Course) -> Told {
+    match a {
+        Course::Ends(e) => completed(e),
+        Course::Unfinished => [10, 0, 0, 0],
+        Course::Refused(r) => refused(r),
+    }
+}
+
+pub(crate) fn dropped(a: Dropped) -> Told {
+    match a {
+        Dropped::GiveBack(back) => [0, back, 0, 0],
+        Dropped::Refused(r) => refused(r),
     }
 }

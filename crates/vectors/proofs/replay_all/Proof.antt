@@ -17,12 +17,6 @@ places-requires c κs = search needs
 places-requires-2 : tie.Need-places-requires-2 Inv-loop μ-loop
 places-requires-2 c κs = search needs
 
-slice-aggregate-list : tie.Need-slice-aggregate-list Inv-loop μ-loop
-slice-aggregate-list c = search needs
-
-slice-aggregate-want : tie.Need-slice-aggregate-want Inv-loop μ-loop
-slice-aggregate-want c = search needs
-
 start-requires : tie.Need-start-requires Inv-loop μ-loop
 start-requires c κs = search needs
 
@@ -73,8 +67,6 @@ replay-all-spec =
     μ-loop
     places-requires
     places-requires-2
-    slice-aggregate-list
-    slice-aggregate-want
     start-requires
     loop-holds
     line-end-requires
