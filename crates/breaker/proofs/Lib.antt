@@ -1,5 +1,6 @@
 -- Laws, by what they speak of: the record, the rules, demand 3, the entry points.
 pub mod Record
+pub mod Tests
 pub mod Cases
 pub mod Keeps
 pub mod Built

@@ -1,6 +1,14 @@
 // The breaker record, its tickets and replies, and the answers of its calls, by value (circuit.rs of the Rust).
-// The rules stand in specs/, and what holds of them, demand 3 too, in proofs/. The code is in circuit.
+// The rules stand in specs/, and what holds of them, demand 3 too, in proofs/. The calls are in circuit.
+ghost use mathlib.Core.Path.{_≡_};
+ghost use Rattle.breaker.specs.Record.{sound};
+
+mod sound;
+
 use error::Refusal;
+use sound::items_of;
+use sound::sound_policy;
+use sound::sound_shared;
 use trip::Config;
 
 // What calls change of a breaker, in document 01's order.
@@ -124,4 +132,26 @@ pub struct Acquisition {
 pub struct Reserving {
     pub answer: Reserved,
     pub breaker: Breaker,
+}
+
+// Whether a record and its list are sound.
+// Ruled out: one that leaves out the places past the list; one that takes settings that are not normalised.
+pub fn is_sound(breaker: Breaker, list: &[u64]) -> bool
+    ensures { λ r. ⌜ r ≡ sound breaker (now (list .entry)) ⌝ }
+{
+    let c = breaker.config;
+    let h = breaker.shared;
+    if !sound_policy(c) {
+        return false;
+    }
+    if c.required < 1 {
+        return false;
+    }
+    if c.trials < c.required {
+        return false;
+    }
+    if !sound_shared(c, h) {
+        return false;
+    }
+    history::sound_list(list, h.len, items_of(c))
 }

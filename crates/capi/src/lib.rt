@@ -470,5 +470,5 @@ pub extern "C" fn pudvirez_board(breaker: &Breaker, list: &[u64]) -> Told
 pub extern "C" fn pudvirez_is_sound(breaker: &Breaker, list: &[u64]) -> bool
     ensures { λ r. ⌜ r ≡ sound (now (breaker .entry)) (now (list .entry)) ⌝ }
 {
-    circuit::is_sound(*breaker, list)
+    breaker::is_sound(*breaker, list)
 }

@@ -61,7 +61,7 @@ pub fn tell_unknown(breaker: Breaker, list: &[u64]) -> Told
     if list.len() != 4096 {
         return tell_refusal(Refusal::Storage);
     }
-    if !circuit::is_sound(breaker, list) {
+    if !breaker::is_sound(breaker, list) {
         return tell_refusal(Refusal::Unsound);
     }
     Told {

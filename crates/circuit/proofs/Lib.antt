@@ -1,5 +1,4 @@
 -- Laws, by the steps of the code that use them.
-pub mod Tests
 pub mod Holding
 pub mod Entering
 pub mod Finishing

@@ -10,7 +10,7 @@ ghost use Rattle.breaker.specs.Calls.{after, kept};
 ghost use Rattle.breaker.specs.Orders.{FinishingOrders, inTurn};
 ghost use Rattle.breaker.specs.Batch.{batch, callBy, slices, calls, numbers, finishedAll};
 ghost use Rattle.circuit.specs.Locked.{Holds};
-use crate::is_sound;
+use breaker::is_sound;
 use crate::outcome::abort_locked;
 use crate::outcome::settle_locked;
 use breaker::Breaker;

@@ -1,14 +1,10 @@
 // The calls of a breaker by value, over lent storage (circuit.rs of the Rust).
-ghost use mathlib.Core.Path.{_≡_};
-ghost use Rattle.breaker.specs.Record.{sound};
-
 mod admit;
 mod batch;
 mod calls;
 mod limiter;
 mod outcome;
 mod permits;
-mod sound;
 mod update;
 
 pub use batch::finish_all;
@@ -35,32 +31,9 @@ pub use permits::permit_cancel;
 pub use permits::permit_dropped;
 pub use permits::permit_failure;
 pub use permits::permit_success;
-use sound::items_of;
-use sound::sound_policy;
-use sound::sound_shared;
 
 // An admission under test: its ticket and the record after it, or the delay.
 enum Entry {
     Granted(Ticket, Breaker),
     Shed(Delay),
-}
-
-pub fn is_sound(breaker: Breaker, list: &[u64]) -> bool
-    ensures { λ r. ⌜ r ≡ sound breaker (now (list .entry)) ⌝ }
-{
-    let c = breaker.config;
-    let h = breaker.shared;
-    if !sound_policy(c) {
-        return false;
-    }
-    if c.required < 1 {
-        return false;
-    }
-    if c.trials < c.required {
-        return false;
-    }
-    if !sound_shared(c, h) {
-        return false;
-    }
-    history::sound_list(list, h.len, items_of(c))
 }

@@ -6,7 +6,7 @@ ghost use Rattle.breaker.specs.Calls.{after, onSound, asked};
 use crate::Entry;
 use crate::admit::admit_as_locked;
 use crate::admit::admit_locked;
-use crate::is_sound;
+use breaker::is_sound;
 use crate::outcome::abort_locked;
 use crate::outcome::release_locked;
 use breaker::Acquisition;

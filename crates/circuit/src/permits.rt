@@ -4,7 +4,7 @@ ghost use mathlib.Core.Bool.{true, false};
 ghost use Rattle.breaker.specs.Answers.{finishedTold, noticeTold};
 ghost use Rattle.breaker.specs.Calls as Calls;
 ghost use Rattle.breaker.specs.Calls.{after, onSound};
-use crate::is_sound;
+use breaker::is_sound;
 use crate::outcome::abort_locked;
 use crate::settle;
 use breaker::Breaker;

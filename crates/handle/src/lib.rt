@@ -332,7 +332,7 @@ pub fn wait_drop(breaker: &mut Breaker, list: &mut [u64], pending: &mut Pending)
 pub fn is_sound(breaker: &Breaker, list: &[u64]) -> bool
     ensures { λ r. ⌜ r ≡ sound (now (breaker .entry)) (now (list .entry)) ⌝ }
 {
-    circuit::is_sound(*breaker, list)
+    breaker::is_sound(*breaker, list)
 }
 
 // Whether a waiter with this ticket may still go.

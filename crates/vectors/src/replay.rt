@@ -266,7 +266,7 @@ fn state(run: Run, list: &mut Places, want: &mut Places, n: &Line) -> Run {
         config,
         len: n[8],
         pending: no_pending(),
-        same: circuit::is_sound(breaker, list),
+        same: breaker::is_sound(breaker, list),
     }
 }
 

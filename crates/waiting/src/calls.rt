@@ -27,7 +27,7 @@ use breaker::Standing;
 use breaker::Ticket;
 use circuit::abort_as;
 use circuit::admit_as;
-use circuit::is_sound;
+use breaker::is_sound;
 use circuit::still_admits;
 use error::Refusal;
 use wait::Dropped;

@@ -1,9 +1,9 @@
--- `circuit::sound::items_of` meets its contract: each `return` is what the tests on its way make of the definition. Assumes nothing.
+-- `breaker::sound::items_of` meets its contract: each `return` is what the tests on its way make of the definition. Assumes nothing.
 use mathlib.Core.Path.{_≡_, refl, sym, ap, _∙_}
 use borrow.Author.Needs.{needs}
 use borrow.Author.Tests.{eq-eqb, ne-eqb, le-leb, lt-leb, lt-ltb, le-ltb, not-true, not-false}
-use Rattle.circuit.proofs.sound.items_of.Statement.{statement}
-use Rattle.circuit.proofs.sound.items_of.Tie as tie
+use Rattle.breaker.proofs.sound.items_of.Statement.{statement}
+use Rattle.breaker.proofs.sound.items_of.Tie as tie
 
 returns : tie.Need-returns
 returns c = simp (eq-eqb _ _ (c .if1 .taken))

@@ -1,7 +1,7 @@
 // The tests behind "sound", over the record alone.
 ghost use mathlib.Core.Path.{_≡_};
 ghost use Rattle.breaker.specs.Record.{soundRatio, soundPolicy, soundShared, itemsOf};
-use breaker::Shared;
+use crate::Shared;
 use history::Items;
 use trip::Config;
 

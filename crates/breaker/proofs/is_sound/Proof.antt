@@ -1,13 +1,13 @@
--- `circuit::is_sound` meets its contract: each `return` is what the tests on its way make of the definition. Assumes nothing.
+-- `breaker::is_sound` meets its contract: each `return` is what the tests on its way make of the definition. Assumes nothing.
 use mathlib.Core.Path.{_≡_, refl, sym, ap, _∙_}
 use borrow.Author.Needs.{needs}
 use borrow.Author.Tests.{le-leb, lt-leb, not-true, not-false}
 use Rattle.history.specs.declared.Items.{Items}
 use Rattle.history.specs.Items.{soundList}
 use Rattle.breaker.specs.Record.{soundConfig, sound}
-use Rattle.circuit.proofs.Tests.{sound-last}
-use Rattle.circuit.proofs.is_sound.Statement.{statement}
-use Rattle.circuit.proofs.is_sound.Tie as tie
+use Rattle.breaker.proofs.Tests.{sound-last}
+use Rattle.breaker.proofs.is_sound.Statement.{statement}
+use Rattle.breaker.proofs.is_sound.Tie as tie
 
 sound-policy-requires : tie.Need-sound-policy-requires
 sound-policy-requires c κs = search needs

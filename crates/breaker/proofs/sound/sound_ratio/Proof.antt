@@ -1,13 +1,13 @@
--- `circuit::sound::sound_ratio` meets its contract: each `return` is what the tests on its way make of the definition. Assumes nothing.
+-- `breaker::sound::sound_ratio` meets its contract: each `return` is what the tests on its way make of the definition. Assumes nothing.
 use mathlib.Core.Path.{_≡_, refl, sym, ap, _∙_}
 use borrow.Author.Needs.{needs}
 use borrow.Author.Tests.{eq-eqb, ne-eqb, le-leb, lt-leb, lt-ltb, le-ltb, not-true, not-false}
 use lib.Ieee.{binary64}
 use lib.Ieee.Bits.{nanBits-above}
 use Rattle.trip.proofs.Floats.{no-nan}
 use Rattle.breaker.proofs.Record.{zero-is, one-is}
-use Rattle.circuit.proofs.sound.sound_ratio.Statement.{statement}
-use Rattle.circuit.proofs.sound.sound_ratio.Tie as tie
+use Rattle.breaker.proofs.sound.sound_ratio.Statement.{statement}
+use Rattle.breaker.proofs.sound.sound_ratio.Tie as tie
 
 returns : tie.Need-returns
 returns c = simp (nanBits-above binary64 (c .before .args .bits), lt-ltb _ _ (c .if1 .taken))
