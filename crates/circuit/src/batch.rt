@@ -10,13 +10,13 @@ ghost use Rattle.breaker.specs.Calls.{after, kept};
 ghost use Rattle.breaker.specs.Orders.{FinishingOrders, inTurn};
 ghost use Rattle.breaker.specs.Batch.{batch, callBy, slices, calls, numbers, finishedAll};
 ghost use Rattle.circuit.specs.Locked.{Holds};
-use breaker::is_sound;
 use crate::outcome::abort_locked;
 use crate::outcome::settle_locked;
 use breaker::Breaker;
 use breaker::Finished;
 use breaker::Settled;
 use breaker::Ticket;
+use breaker::is_sound;
 use error::Refusal;
 
 fn number_of(answer: Finished) -> u64

@@ -6,7 +6,6 @@ ghost use Rattle.breaker.specs.Calls.{after, onSound, asked};
 use crate::Entry;
 use crate::admit::admit_as_locked;
 use crate::admit::admit_locked;
-use breaker::is_sound;
 use crate::outcome::abort_locked;
 use crate::outcome::release_locked;
 use breaker::Acquisition;
@@ -19,6 +18,7 @@ use breaker::Noticed;
 use breaker::Reservation;
 use breaker::Reserved;
 use breaker::Reserving;
+use breaker::is_sound;
 use error::Refusal;
 
 // The verdict without a transition, else the inner limiter's peek.

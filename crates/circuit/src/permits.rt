@@ -4,7 +4,6 @@ ghost use mathlib.Core.Bool.{true, false};
 ghost use Rattle.breaker.specs.Answers.{finishedTold, noticeTold};
 ghost use Rattle.breaker.specs.Calls as Calls;
 ghost use Rattle.breaker.specs.Calls.{after, onSound};
-use breaker::is_sound;
 use crate::outcome::abort_locked;
 use crate::settle;
 use breaker::Breaker;
@@ -13,6 +12,7 @@ use breaker::Notice;
 use breaker::Noticed;
 use breaker::Settled;
 use breaker::Ticket;
+use breaker::is_sound;
 use error::Refusal;
 
 // Ruled out: a success counted as a failure; one that needs a probe.
