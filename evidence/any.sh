@@ -1,0 +1,49 @@
+#!/usr/bin/env bash
+# Feeds every function of the archive with any numbers (any.c), under the sanitizers and under valgrind, and shows that planted faults are
+# found. Run from the repository's top; makes the archive if it isn't there. What is missing is named and left out.
+#     evidence/any.sh [ROUNDS] [ROUNDS under valgrind] [SEED]
+set -eu
+cd "$(dirname "$0")/.."
+rounds=${1:-5000000}
+fewer=${2:-50000}
+seed=${3:-1}
+lib=target/staticlib/libcapi.a
+out=target/evidence
+[ -f "$lib" ] || rt staticlib capi
+command -v gcc > /dev/null || { echo "gcc is missing: nothing was run"; exit 1; }
+mkdir -p "$out"
+wrong=0
+build() { # name, further arguments
+    local name=$1
+    shift
+    gcc -std=c11 -O2 -g -Wall -Wextra -Werror -Iinclude "$@" evidence/any.c "$lib" -lm -o "$out/$name"
+}
+build any
+
+echo "== the sanitizers on the C side (address, undefined)"
+if build any_sanitized -fsanitize=address,undefined -fno-sanitize-recover=all 2> "$out/sanitized.out"; then
+    "$out/any_sanitized" "$rounds" "$seed" || wrong=1
+else
+    echo "gcc has no sanitizers here; without them:"
+    "$out/any" "$rounds" "$seed" || wrong=1
+fi
+
+echo "== valgrind"
+if command -v valgrind > /dev/null; then
+    valgrind --quiet --error-exitcode=9 "$out/any" "$fewer" "$((seed + 1))" || wrong=1
+else
+    echo "valgrind is missing: left out"
+fi
+
+echo "== planted faults"
+for fault in 1 2 3 4 5; do
+    build "fault_$fault" -DFAULT="$fault" -Wl,--wrap=pudvirez_settle evidence/any_faults.c
+    if (ulimit -c 0; "$out/fault_$fault" 100000 "$seed") > "$out/fault_$fault.out" 2>&1; then
+        echo "fault $fault was not found"
+        wrong=1
+    else
+        echo "fault $fault found"
+    fi
+done 2> /dev/null
+
+[ "$wrong" = 0 ] && echo "no findings" || { echo "FINDINGS"; exit 1; }
