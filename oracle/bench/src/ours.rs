@@ -1,0 +1,177 @@
+//! The archive's side of a task.
+
+#[path = "../../waits/src/archive/ffi.rs"]
+#[allow(dead_code)]
+mod ffi;
+
+use throttle::plain::{self, Call, State};
+use throttle::scope::PLACES;
+
+use crate::task::{CALLS, Task};
+use ffi::{Breaker, Config, Shared, Ticket, Told};
+
+unsafe extern "C" {
+    fn pudvirez_finish_all(
+        b: *mut Breaker,
+        list: *mut u64,
+        places: usize,
+        now_ms: u64,
+        generations: *const u64,
+        generation_count: usize,
+        probes: *const bool,
+        probe_count: usize,
+        settles: *const bool,
+        settle_count: usize,
+        marks: *const bool,
+        mark_count: usize,
+        answers: *mut u64,
+        answer_count: usize,
+    ) -> Told;
+}
+
+/// A record and its storage.
+pub struct Ours {
+    breaker: Breaker,
+    list: Box<[u64; PLACES]>,
+}
+
+impl Ours {
+    pub fn new() -> Self {
+        Self {
+            breaker: Breaker::default(),
+            list: Box::new([0; PLACES]),
+        }
+    }
+
+    pub fn set(&mut self, config: plain::Config, state: &State) {
+        self.breaker = Breaker {
+            config: Config {
+                kind: config.kind,
+                limit: config.limit,
+                ratio_bits: config.ratio_bits,
+                min_calls: config.min_calls,
+                period_ms: config.period_ms,
+                cooldown_ms: config.cooldown_ms,
+                trials: config.trials,
+                required: config.required,
+            },
+            shared: Shared {
+                state: state.state,
+                generation: state.generation,
+                run: state.run,
+                inflight: state.inflight,
+                trait_probes: state.trait_probes,
+                successes: state.successes,
+                open_until: state.open_until,
+                len: state.items.len() as u32,
+            },
+        };
+        let (items, rest) = self.list.split_at_mut(state.items.len());
+        items.copy_from_slice(&state.items);
+        rest.fill(0);
+    }
+
+    /// The told number.
+    #[inline]
+    pub fn call(&mut self, now: u64, call: Call) -> u32 {
+        let (b, list) = (&raw mut self.breaker, self.list.as_mut_ptr());
+        // SAFETY: the list has so many places.
+        let told = unsafe {
+            match call {
+                Call::Admit { via_trait } => {
+                    ffi::pudvirez_admit_as(b, list, PLACES, now, via_trait)
+                }
+                Call::Settle { ticket, success } => {
+                    ffi::pudvirez_settle(b, list, PLACES, now, own(ticket), success)
+                }
+                Call::Abort { ticket, via_trait } => {
+                    ffi::pudvirez_abort_as(b, list, PLACES, own(ticket), via_trait)
+                }
+                _ => panic!("{call:?} is not timed"),
+            }
+        };
+        told.number
+    }
+
+    pub fn finish_all(&mut self, batch: &mut Batch) -> u32 {
+        let n = CALLS as usize;
+        // SAFETY: each array has so many elements, and none overlaps another.
+        let told = unsafe {
+            pudvirez_finish_all(
+                &mut self.breaker,
+                self.list.as_mut_ptr(),
+                PLACES,
+                batch.now,
+                batch.generations.as_ptr(),
+                n,
+                batch.probes.as_ptr(),
+                n,
+                batch.settles.as_ptr(),
+                n,
+                batch.marks.as_ptr(),
+                n,
+                batch.answers.as_mut_ptr(),
+                n,
+            )
+        };
+        told.number
+    }
+
+    /// Whether all fields and items are as in this state.
+    pub fn holds(&self, state: &State) -> bool {
+        let s = &self.breaker.shared;
+        let fields = [
+            s.state.into(),
+            s.generation,
+            s.run.into(),
+            s.inflight.into(),
+            s.trait_probes.into(),
+            s.successes.into(),
+            s.open_until,
+            s.len.into(),
+        ];
+        fields == state.numbers() && self.list[..state.items.len()] == state.items
+    }
+}
+
+fn own(ticket: plain::Ticket) -> Ticket {
+    Ticket {
+        generation: ticket.generation,
+        probe: ticket.probe,
+    }
+}
+
+/// A task's calls as the batch takes them.
+pub struct Batch {
+    now: u64,
+    generations: [u64; CALLS as usize],
+    probes: [bool; CALLS as usize],
+    settles: [bool; CALLS as usize],
+    marks: [bool; CALLS as usize],
+    answers: [u64; CALLS as usize],
+}
+
+impl Batch {
+    pub fn new(task: &Task) -> Self {
+        let mut batch = Self {
+            now: task.call(0).0,
+            generations: [0; CALLS as usize],
+            probes: [false; CALLS as usize],
+            settles: [false; CALLS as usize],
+            marks: [false; CALLS as usize],
+            answers: [0; CALLS as usize],
+        };
+        for i in 0..CALLS as usize {
+            let (settles, ticket, mark) = match task.call(i as u64).1 {
+                Call::Settle { ticket, success } => (true, ticket, success),
+                Call::Abort { ticket, via_trait } => (false, ticket, via_trait),
+                call => panic!("{call:?} finishes nothing"),
+            };
+            batch.generations[i] = ticket.generation;
+            batch.probes[i] = ticket.probe;
+            batch.settles[i] = settles;
+            batch.marks[i] = mark;
+        }
+        batch
+    }
+}
