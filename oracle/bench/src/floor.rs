@@ -1,5 +1,4 @@
 //! What reading and moving places takes on this machine, with nothing else done.
-#![cfg_attr(not(archive), allow(dead_code))]
 
 use std::hint::black_box;
 

@@ -1,5 +1,6 @@
 //! Times the same calls on the unchanged Rust and on the archive. See `USAGE`.
 
+#[cfg(archive)]
 mod floor;
 mod journal;
 #[cfg(archive)]
@@ -8,6 +9,7 @@ mod ours;
 mod table;
 #[cfg(archive)]
 mod task;
+#[cfg(archive)]
 mod timer;
 
 use std::env;
