@@ -270,7 +270,8 @@ enum { BUILD, ADMIT_AS, SETTLE, ABORT_AS, PERMIT_SUCCESS, PERMIT_FAILURE, PERMIT
        WAIT_START, WAIT_TURN, WAIT_RUN, WAIT_DROP, STILL_ADMITS, PEEK, AVAILABLE, BOARD, IS_SOUND, FUNCTIONS };
 static const char *const names[FUNCTIONS] = { "build", "admit_as", "settle", "abort_as", "permit_success", "permit_failure", "permit_dropped", "permit_cancel", "reset", "record_manual", "release_trait_probe",
        "try_admit", "acquire_cost", "reserve", "refund", "finish_all", "wait_start", "wait_turn", "wait_run", "wait_drop", "still_admits", "peek", "available", "board", "is_sound" };
-static uint64_t counts[FUNCTIONS][12], several, findings, round_number;
+static uint64_t counts[FUNCTIONS][12], several, fives, findings, round_number;
+static bool met_several;
 
 static void expect(bool holds, int f, const char *what, uint64_t got, uint64_t want)
 {
@@ -296,10 +297,10 @@ static bool same_pending(const PudvirezPending *x, const PudvirezPending *y)
            && x->ticket.generation == y->ticket.generation && x->ticket.probe == y->ticket.probe;
 }
 
-/* The first of 3, 4, 11, 1, 2 that is met, or 0; counts calls that met several. */
+/* The first of 3, 4, 11, 1, 2 that is met, or 0; notes whether several are. */
 static uint32_t first(bool c3, bool c4, bool c11, bool c1, bool c2)
 {
-    several += c3 + c4 + c11 + c1 + c2 > 1;
+    met_several = c3 + c4 + c11 + c1 + c2 > 1;
     return c3 ? 3 : c4 ? 4 : c11 ? 11 : c1 ? 1 : c2 ? 2 : 0;
 }
 
@@ -447,13 +448,14 @@ static void one_round(void)
                 ((bool *)at[j])[i] = coin();
         for (size_t i = 0; i < n[4]; i++)
             answers0[i] = ((uint64_t *)at[4])[i] = word();
-        several += differ && (c3 || c4);
+        met_several |= differ && c4;
         if (differ)
             want = 3;
         t = pudvirez_finish_all(b, list, places, now, at[0], n[0], at[1], n[1], at[2], n[2], at[3], n[3], at[4], n[4]);
         for (size_t i = 0; i < n[4]; i++) {
             uint64_t a = ((uint64_t *)at[4])[i];
             expect(t.number == 0 ? a == 0 || a == 5 : a == answers0[i], f, "an answer", a, answers0[i]);
+            fives += t.number == 0 && a == 5;
         }
         break;
     }
@@ -487,7 +489,6 @@ static void one_round(void)
         }
         for (size_t i = numbers / 8 * 8; i < numbers; i++)
             turns[i] = word();
-        several += numbers % 8 != 0 && c3;
         bool looks = numbers >= 8 && limit > 0;
         want = first(c3 || numbers % 8 != 0, c4, ended(&p->wait) || (looks && (turns[3] < 1 || turns[3] > 3)), over_bounds(&p->wait), false);
         w = pudvirez_wait_run(b, list, places, p, turns, numbers, limit, now, capacity);
@@ -547,6 +548,7 @@ static void one_round(void)
     expect(n == want, f, "the number", n, want);
     expect(n < 12, f, "no number of the table", n, 11);
     counts[f][n < 12 ? n : 0] += 1;
+    several += met_several;
     const bool refused = (n >= 1 && n <= 5) || n == 11;
     const bool admission = f == ADMIT_AS || f == TRY_ADMIT || f == WAIT_START;
     if (refused)
@@ -585,6 +587,7 @@ int main(int argc, char **argv)
         for (int n = 0; n < 12; n++)
             printf(counts[f][n] == 0 ? "       -" : " %7llu", (unsigned long long)counts[f][n]);
     }
-    printf("\n%llu rounds of seed %s, %llu of them with several causes at once; %llu findings\n", (unsigned long long)rounds, argv[2], (unsigned long long)several, (unsigned long long)findings);
+    printf("\nin batches %llu calls were told 5\n", (unsigned long long)fives);
+    printf("%llu rounds of seed %s, %llu of them with several causes at once; %llu findings\n", (unsigned long long)rounds, argv[2], (unsigned long long)several, (unsigned long long)findings);
     return findings == 0 ? 0 : 1;
 }
