@@ -1,16 +1,13 @@
 //! The archive: every wait turn by turn on one side, and in runs on another.
 
-mod ffi;
-mod side;
-
+use archive::ffi::{Pending, Waited};
+use archive::{Side, plain_waited};
 use sample::prng::Prng;
 use throttle::plain::{Answer, State};
 use throttle::turns::Handed;
 
 use crate::compare::{Difference, Rival};
 use crate::event::{Event, Played, Step};
-use ffi::{Pending, Waited};
-use side::{Side, plain_waited};
 
 /// Turns past those that a run may read: no number of theirs is allowed.
 const BAIT: [u64; 8] = [u64::MAX; 8];

@@ -1,4 +1,4 @@
-//! What is used of include/pudvirez.h.
+//! include/pudvirez.h.
 
 #[repr(C)]
 #[derive(Clone, Copy, Debug, Default, PartialEq, Eq)]
@@ -146,6 +146,115 @@ unsafe extern "C" {
     ) -> Told;
 
     pub fn pudvirez_reset(b: *mut Breaker, list: *mut u64, places: usize) -> Told;
+
+    pub fn pudvirez_permit_success(
+        b: *mut Breaker,
+        list: *mut u64,
+        places: usize,
+        now_ms: u64,
+        ticket: Ticket,
+    ) -> Told;
+
+    pub fn pudvirez_permit_failure(
+        b: *mut Breaker,
+        list: *mut u64,
+        places: usize,
+        now_ms: u64,
+        ticket: Ticket,
+    ) -> Told;
+
+    pub fn pudvirez_permit_dropped(
+        b: *mut Breaker,
+        list: *mut u64,
+        places: usize,
+        now_ms: u64,
+        ticket: Ticket,
+    ) -> Told;
+
+    pub fn pudvirez_permit_cancel(
+        b: *mut Breaker,
+        list: *mut u64,
+        places: usize,
+        ticket: Ticket,
+    ) -> Told;
+
+    pub fn pudvirez_try_admit(
+        b: *mut Breaker,
+        list: *mut u64,
+        places: usize,
+        now_ms: u64,
+        inner_kind: u8,
+        inner_ms: u64,
+        capacity: u32,
+    ) -> Told;
+
+    pub fn pudvirez_acquire_cost(
+        b: *mut Breaker,
+        list: *mut u64,
+        places: usize,
+        now_ms: u64,
+        inner_kind: u8,
+        inner_ms: u64,
+    ) -> Told;
+
+    pub fn pudvirez_reserve(
+        b: *mut Breaker,
+        list: *mut u64,
+        places: usize,
+        now_ms: u64,
+        inner_kind: u8,
+        inner_ms: u64,
+    ) -> Told;
+
+    pub fn pudvirez_refund(b: *mut Breaker, list: *mut u64, places: usize, cost: u32) -> Told;
+
+    pub fn pudvirez_finish_all(
+        b: *mut Breaker,
+        list: *mut u64,
+        places: usize,
+        now_ms: u64,
+        generations: *const u64,
+        generation_count: usize,
+        probes: *const bool,
+        probe_count: usize,
+        settles: *const bool,
+        settle_count: usize,
+        marks: *const bool,
+        mark_count: usize,
+        answers: *mut u64,
+        answer_count: usize,
+    ) -> Told;
+
+    pub fn pudvirez_still_admits(
+        b: *const Breaker,
+        list: *const u64,
+        places: usize,
+        now_ms: u64,
+        ticket: Ticket,
+    ) -> Told;
+
+    pub fn pudvirez_peek(
+        b: *const Breaker,
+        list: *const u64,
+        places: usize,
+        now_ms: u64,
+        inner_kind: u8,
+        inner_ms: u64,
+    ) -> Told;
+
+    pub fn pudvirez_available(
+        b: *const Breaker,
+        list: *const u64,
+        places: usize,
+        now_ms: u64,
+        inner_kind: u8,
+        inner_ms: u64,
+        count: u32,
+    ) -> Told;
+
+    pub fn pudvirez_board(b: *const Breaker, list: *const u64, places: usize) -> Told;
+
+    pub fn pudvirez_is_sound(b: *const Breaker, list: *const u64, places: usize) -> bool;
 
     pub fn pudvirez_wait_start(
         b: *mut Breaker,

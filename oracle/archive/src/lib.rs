@@ -1,0 +1,17 @@
+//! The archive behind include/pudvirez.h. Without PUDVIREZ_ARCHIVE this is empty.
+
+#[cfg(archive)]
+mod calls;
+#[cfg(archive)]
+mod convert;
+#[cfg(archive)]
+pub mod ffi;
+#[cfg(archive)]
+mod side;
+
+#[cfg(archive)]
+pub use calls::{Handing, Named};
+#[cfg(archive)]
+pub use convert::{config, plain_told, plain_waited, setting, shared, state};
+#[cfg(archive)]
+pub use side::{ROOM, Side};
