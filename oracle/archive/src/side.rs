@@ -12,9 +12,6 @@ const SPARE: usize = 8;
 pub const ROOM: usize = PLACES + SPARE;
 const UNTOUCHED: [u64; SPARE] = [0x5a5a_5a5a_5a5a_5a5a; SPARE];
 
-/// The places past a list, to be compared at once.
-static ZEROS: [u64; PLACES] = [0; PLACES];
-
 pub struct Side {
     pub breaker: Breaker,
     pub list: Box<[u64; ROOM]>,
@@ -59,8 +56,10 @@ impl Side {
 
     /// Whether the places from here on hold 0, and those past the storage are untouched.
     pub fn clean_past(&self, len: usize) -> bool {
-        let rest = &self.list[len..PLACES];
-        *rest == ZEROS[..rest.len()] && self.list[PLACES..] == UNTOUCHED
+        let any = self.list[len..PLACES]
+            .iter()
+            .fold(0, |any, place| any | place);
+        any == 0 && self.list[PLACES..] == UNTOUCHED
     }
 
     /// What it holds, to be read by people.

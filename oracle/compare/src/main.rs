@@ -1,21 +1,62 @@
-use archive::Side;
-use throttle::plain::*;
-use std::time::Duration;
-fn main() {
-    let mut s = Side::default();
-    let set = Settings { trip: throttle::Trip::Windowed{failures:3,period:Duration::from_millis(5)}, cooldown: Duration::from_millis(1), trials:1, required:1};
-    s.set(&set, &State::default());
-    let t = std::time::Instant::now();
-    for i in 0..1_000_000u64 { s.call(i*10, &Call::Admit{via_trait:false}); s.call(i*10,&Call::Record{success:false}); }
-    println!("{:?}", t.elapsed());
-    let t = std::time::Instant::now();
-    let mut n = 0; for _ in 0..1_000_000u64 { n += s.clean_past(1) as u64; }
-    println!("{:?} {n}", t.elapsed());
-    let items = vec![500u64; 4096];
-    let c = Config::of(&set);
-    let _ = c;
-    s.set(&Settings{trip: throttle::Trip::Windowed{failures:4096,period:Duration::from_millis(5)},..set}, &State{items, ..State::default()});
-    let t = std::time::Instant::now();
-    for _ in 0..100_000u64 { s.call(500,&Call::Record{success:false}); }
-    println!("{:?} {}", t.elapsed(), s.breaker.shared.len);
+//! Compares the Rust and the archive call by call. See `USAGE`.
+
+#[cfg(archive)]
+mod act;
+#[cfg(archive)]
+mod damage;
+#[cfg(archive)]
+mod draw;
+#[cfg(archive)]
+mod exhaustive;
+#[cfg(archive)]
+mod expect;
+#[cfg(archive)]
+mod pair;
+#[cfg(archive)]
+mod random;
+#[cfg(archive)]
+mod report;
+#[cfg(archive)]
+mod shrink;
+#[cfg(archive)]
+mod slip;
+#[cfg(archive)]
+mod tally;
+
+use std::env;
+use std::process::ExitCode;
+
+const USAGE: &str = "\
+usage: compare random SEED STEPS [--flip K]   random sequences, at least so many steps
+       compare exhaustive [--flip K]          all short sequences
+       compare slips SEED STEPS               each slip that --flip knows, until it is found";
+
+fn main() -> ExitCode {
+    let args: Vec<String> = env::args().skip(1).collect();
+    let args: Vec<&str> = args.iter().map(String::as_str).collect();
+    run(&args).unwrap_or_else(|| {
+        eprintln!("{USAGE}");
+        ExitCode::FAILURE
+    })
+}
+
+#[cfg(archive)]
+fn run(args: &[&str]) -> Option<ExitCode> {
+    let number = |text: &str| text.parse().ok();
+    let (args, flip) = match args {
+        [args @ .., "--flip", flip] => (args, number(flip)?),
+        _ => (args, 0),
+    };
+    match *args {
+        ["random", seed, steps] => Some(report::random(number(seed)?, number(steps)?, flip)),
+        ["exhaustive"] => Some(report::exhaustive(flip)),
+        ["slips", seed, steps] => Some(report::slips(number(seed)?, number(steps)?)),
+        _ => None,
+    }
+}
+
+#[cfg(not(archive))]
+fn run(_: &[&str]) -> Option<ExitCode> {
+    eprintln!("built without an archive: name one in PUDVIREZ_ARCHIVE and build again");
+    None
 }

@@ -72,6 +72,32 @@ impl Subject {
         }
     }
 
+    /// The numbers of `state`, without a copy of the list.
+    pub fn numbers(&self) -> [u64; 8] {
+        let shared = self.breaker.lock();
+        [
+            shared.state.describe().1.into(),
+            shared.generation,
+            shared.consecutive.into(),
+            shared.half_open_inflight.into(),
+            shared.trait_probes.into(),
+            shared.half_open_successes.into(),
+            shared.open_until_ms,
+            (shared.outcomes.len() + shared.failure_times.len()) as u64,
+        ]
+    }
+
+    /// Whether the list holds just these items.
+    pub fn lists(&self, items: &[u64]) -> bool {
+        let shared = self.breaker.lock();
+        let (front, back) = shared.failure_times.as_slices();
+        let outcomes = shared.outcomes.iter().map(|&failed| u64::from(failed));
+        match items.split_at_checked(front.len()) {
+            Some((first, last)) if shared.outcomes.is_empty() => first == front && last == back,
+            _ => shared.failure_times.is_empty() && outcomes.eq(items.iter().copied()),
+        }
+    }
+
     /// Sets everything that calls change. Panics on a state code or an item
     /// that the breaker can't hold.
     pub fn set_state(&self, state: &State) {
