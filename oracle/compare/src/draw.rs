@@ -2,13 +2,26 @@
 
 use archive::ffi::Setting;
 use archive::{ROOM, setting};
-use sample::draw::{self, Player};
+use sample::draw::{self, Player, Start};
 use sample::prng::Prng;
 use throttle::plain::{Call, Config, HALF_OPEN, State, Ticket};
 
 use crate::act::{Damage, Finishing, Op, Step};
 use crate::damage::FIELDS;
 use crate::expect::knows;
+
+/// A full or nearly full list of times that all differ, so that one goes at a
+/// time, and a reading about where the first one goes.
+pub fn rising_start(prng: &mut Prng, config: &Config) -> Start {
+    let (len, first) = (4094 + prng.below(3), prng.below(100));
+    let state = State {
+        generation: u64::MAX - prng.below(3),
+        items: (first..first + len).collect(),
+        ..State::default()
+    };
+    let clock = prng.near(config.period_ms.saturating_add(first));
+    Start { state, clock }
+}
 
 /// The next step of a sequence.
 pub fn step(prng: &mut Prng, player: &mut Player, config: &Config, state: &State) -> Step {

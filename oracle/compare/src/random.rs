@@ -4,11 +4,11 @@ use archive::setting;
 use sample::draw::{self, Player, Start};
 use sample::prng::Prng;
 use throttle::Trip;
-use throttle::plain::{Call, Settings};
+use throttle::plain::{Answer, Call, Settings, WINDOWED};
 use throttle::scope::sound;
 
 use crate::act::{Op, Step};
-use crate::draw::{any_setting, spoil, step};
+use crate::draw::{any_setting, rising_start, spoil, step};
 use crate::expect::refusal;
 use crate::pair::{Difference, Pair};
 use crate::slip::Slip;
@@ -102,6 +102,7 @@ impl Random {
         let (prng, config) = (&mut self.prng, &self.pair.config);
         let fresh = if config.limit <= 3 { 35 } else { 10 };
         let Start { state, clock } = match long {
+            true if config.kind == WINDOWED && prng.percent(30) => rising_start(prng, config),
             true => draw::long_start(prng, config),
             false if prng.percent(fresh) => return Ok(prng.below(100)),
             false => draw::start(prng, config),
@@ -111,7 +112,7 @@ impl Random {
         Ok(clock)
     }
 
-    fn play(&mut self, step: Step) -> Result<throttle::plain::Answer, Difference> {
+    fn play(&mut self, step: Step) -> Result<Answer, Difference> {
         let before = *self.pair.shared();
         self.done.push(step);
         let step = &self.done[self.done.len() - 1];

@@ -11,7 +11,7 @@ pub const SLIPS: [&str; 10] = [
     "exact fractions compared",
     "generation 2^64 - 1 moves to 1",
     "a manual success without a trait probe takes from inflight",
-    "a full list that shrinks leaves its last place",
+    "a full list that loses one time leaves its last place",
     "number 5 one time early",
     "the run of failures wraps",
     "trait probes wrap",
@@ -33,7 +33,7 @@ impl Slip {
         let now = self.reading(ours, now, call);
         let answer = ours.hand(now, call, how);
         match self.0 {
-            6 if before.shared.len as usize == PLACES && ours.breaker.shared.len == 4095 => {
+            6 if before.shared.len == 4096 && ours.breaker.shared.len == 4095 => {
                 ours.list[PLACES - 1] = last;
                 answer
             }
