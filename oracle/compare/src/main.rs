@@ -29,7 +29,7 @@ use std::process::ExitCode;
 const USAGE: &str = "\
 usage: compare random SEED STEPS [--flip K]   random sequences, at least so many steps
        compare exhaustive [--flip K]          all short sequences
-       compare slips SEED STEPS               each slip that --flip knows, until it is found";
+       compare slips SEED STEPS               each slip that --flip knows, 1 to 10, until it is found";
 
 fn main() -> ExitCode {
     let args: Vec<String> = env::args().skip(1).collect();
@@ -47,6 +47,7 @@ fn run(args: &[&str]) -> Option<ExitCode> {
         [args @ .., "--flip", flip] => (args, number(flip)?),
         _ => (args, 0),
     };
+    (flip <= slip::SLIPS.len() as u64).then_some(())?;
     match *args {
         ["random", seed, steps] => Some(report::random(number(seed)?, number(steps)?, flip)),
         ["exhaustive"] => Some(report::exhaustive(flip)),

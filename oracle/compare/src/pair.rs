@@ -11,7 +11,8 @@ use crate::damage::{seen, swap};
 use crate::expect;
 use crate::slip::Slip;
 
-/// What a finishing sequence finds in the answers, and leaves if refused.
+/// What a finishing sequence finds in the answers and one place past them. It
+/// leaves that place, and all of them if refused.
 const BEFORE: u64 = 0x5a5a;
 
 pub struct Pair {
@@ -163,7 +164,7 @@ impl Pair {
     fn expected(&mut self, step: &Step, refusal: Option<u64>, sound: bool) -> Told {
         if let Some(number) = refusal {
             let answers = match &step.op {
-                Op::Finish { calls, short } => vec![BEFORE; calls.len() - least(*short, 4)],
+                Op::Finish { calls, short } => vec![BEFORE; calls.len() - least(*short, 4) + 1],
                 _ => Vec::new(),
             };
             let answer = Answer::new(number, [0; 3]);
@@ -181,7 +182,8 @@ impl Pair {
             Op::IsSound => Answer::count(u64::from(sound && step.how.places == PLACES)),
             Op::Finish { calls, .. } => {
                 let one = |call: &Finishing| self.on_rust(step.now, &call.call()).number;
-                let answers = calls.iter().map(one).collect();
+                let mut answers: Vec<u64> = calls.iter().map(one).collect();
+                answers.push(BEFORE);
                 let answer = Answer::DONE;
                 return Told { answer, answers };
             }
@@ -216,8 +218,9 @@ fn finish(ours: &mut Side, step: &Step, calls: &[Finishing], short: Option<usize
         settles: &settles[..len(2)],
         marks: &marks[..len(3)],
     };
-    let mut answers = vec![BEFORE; len(4)];
-    let answer = ours.finish_all(step.now, &named, &mut answers, step.how.places);
+    let mut answers = vec![BEFORE; len(4) + 1];
+    let handed = &mut answers[..len(4)];
+    let answer = ours.finish_all(step.now, &named, handed, step.how.places);
     Told { answer, answers }
 }
 
