@@ -1,33 +1,10 @@
 //! The archive's side of a task.
 
-#[path = "../../waits/src/archive/ffi.rs"]
-#[allow(dead_code)]
-mod ffi;
-
 use throttle::plain::{self, Call, State};
 use throttle::scope::PLACES;
 
 use crate::task::{CALLS, Task};
-use ffi::{Breaker, Config, Shared, Ticket, Told};
-
-unsafe extern "C" {
-    fn pudvirez_finish_all(
-        b: *mut Breaker,
-        list: *mut u64,
-        places: usize,
-        now_ms: u64,
-        generations: *const u64,
-        generation_count: usize,
-        probes: *const bool,
-        probe_count: usize,
-        settles: *const bool,
-        settle_count: usize,
-        marks: *const bool,
-        mark_count: usize,
-        answers: *mut u64,
-        answer_count: usize,
-    ) -> Told;
-}
+use archive::ffi::{self, Breaker, Config, Shared, Ticket};
 
 /// A record and its storage.
 pub struct Ours {
@@ -97,7 +74,7 @@ impl Ours {
         let n = CALLS as usize;
         // SAFETY: each array has so many elements, and none overlaps another.
         let told = unsafe {
-            pudvirez_finish_all(
+            ffi::pudvirez_finish_all(
                 &mut self.breaker,
                 self.list.as_mut_ptr(),
                 PLACES,
