@@ -42,14 +42,14 @@ fn item(n: &[u64], at: usize) -> u64 {
     n[at]
 }
 
-fn put(list: &mut Places, at: usize, value: u64) {
-    if at < 4096 {
+fn put(list: &mut [u64], at: usize, value: u64) {
+    if at < list.len() {
         list[at] = value;
     }
 }
 
 // Takes the first `k` items away: the others move to the front, and zeros follow.
-pub(crate) fn pop(list: &mut Places, k: usize) {
+pub(crate) fn pop(list: &mut [u64], k: usize) {
     let mut i: usize = 0;
     while i < 4096 {
         let value = item(list, std::num::wrapping_add_usize(i, k));
@@ -59,7 +59,7 @@ pub(crate) fn pop(list: &mut Places, k: usize) {
 }
 
 // Writes `count` numbers of `n`, from `from` on, to the places from `to` on.
-pub(crate) fn push(list: &mut Places, to: usize, n: &[u64], from: usize, count: usize) {
+pub(crate) fn push(list: &mut [u64], to: usize, n: &[u64], from: usize, count: usize) {
     let mut i: usize = 0;
     while i < count {
         put(

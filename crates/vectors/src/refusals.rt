@@ -1,11 +1,13 @@
 // What document 01 refuses of a wait: each is tried, and must change nothing.
 use crate::compare::Places;
+use crate::compare::push;
 use crate::compare::stands;
 use crate::tallies::Tallies;
 use crate::tallies::tally;
 use crate::tallies::tally_told;
 use crate::waits::Numbers;
 use crate::waits::make;
+use crate::waits::zeros;
 
 // The numbers of a call with one replaced.
 pub(crate) fn changed(a: &Numbers, at: usize, value: u64) -> Numbers {
@@ -31,6 +33,7 @@ pub(crate) fn judge(r: &Numbers, due: &Numbers, list: &Places, want: &Places, t:
     }
 }
 
+// Makes a call, and judges it.
 pub(crate) fn comes_to(
     list: &mut Places,
     want: &Places,
@@ -44,46 +47,10 @@ pub(crate) fn comes_to(
 
 // The breaker and the wait as they are handed in, and this number alone.
 fn refused(a: &Numbers, number: u64) -> Numbers {
-    [
-        a[0],
-        a[1],
-        a[2],
-        a[3],
-        a[4],
-        a[5],
-        a[6],
-        a[7],
-        a[8],
-        a[9],
-        a[10],
-        a[11],
-        a[12],
-        a[13],
-        a[14],
-        a[15],
-        a[16],
-        a[17],
-        a[18],
-        a[19],
-        a[20],
-        a[21],
-        a[22],
-        a[23],
-        number,
-        0,
-        0,
-        0,
-        0,
-        0,
-        0,
-        0,
-        0,
-        0,
-        0,
-        0,
-        0,
-        0,
-    ]
+    let mut due = zeros();
+    push(&mut due, 0, a, 0, 24);
+    due[24] = number;
+    due
 }
 
 // A call with one number replaced is refused with `number`.

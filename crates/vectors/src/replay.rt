@@ -1,4 +1,4 @@
-// The lines of a breaker: a build, a state and a call. Each is compared with what the sample expects.
+// The lines of the sample. A build, a state and a call are replayed here, and compared with what the sample expects.
 use crate::calls;
 use crate::calls::Called;
 use crate::calls::narrow;
@@ -190,7 +190,6 @@ fn answers(r: Called, config: [u64; 8], n: &Line, list: &Places, want: &Places) 
 
 // Makes a call, after its refusals, and compares it.
 fn call(run: Run, list: &mut Places, want: &mut Places, n: &Line, t: &mut Tallies) -> Run {
-    tally(t, 16);
     tally(t, index(n[1]));
     let before = run.breaker;
     let config = run.config;
@@ -293,6 +292,30 @@ fn build(run: Run, list: &mut Places, want: &mut Places, n: &Line) -> Run {
     }
 }
 
+// Whether a line of so many numbers is one that the list before it allows.
+fn is_line(n: &Line, count: usize, len: u64) -> bool {
+    let kind = n[0];
+    match kind {
+        0 => settings::is_build(n, count),
+        1 => is_state(n, count),
+        2 => is_call(n, count, len),
+        6 => is_between(n, count, len),
+        _ => is_wait(n, count),
+    }
+}
+
+fn tally_line(t: &mut Tallies, kind: u64) {
+    match kind {
+        0 => tally(t, 17),
+        1 => tally(t, 18),
+        2 => tally(t, 16),
+        3 => tally(t, 21),
+        4 => tally(t, 22),
+        5 => tally(t, 23),
+        _ => tally(t, 24),
+    }
+}
+
 // Replays a line of so many numbers.
 pub(crate) fn replay(
     run: Run,
@@ -302,32 +325,15 @@ pub(crate) fn replay(
     count: usize,
     t: &mut Tallies,
 ) -> Run {
+    if !is_line(n, count, run.len) {
+        return unlike(run);
+    }
     let kind = n[0];
-    if kind == 0 {
-        if settings::is_build(n, count) {
-            tally(t, 17);
-            return build(run, list, want, n);
-        }
+    tally_line(t, kind);
+    match kind {
+        0 => build(run, list, want, n),
+        1 => state(run, list, want, n),
+        2 | 6 => call(run, list, want, n, t),
+        _ => wait_lines::replay(run, list, want, n, t),
     }
-    if kind == 1 {
-        if is_state(n, count) {
-            tally(t, 18);
-            return state(run, list, want, n);
-        }
-    }
-    if kind == 2 {
-        if is_call(n, count, run.len) {
-            return call(run, list, want, n, t);
-        }
-    }
-    if kind == 6 {
-        if is_between(n, count, run.len) {
-            tally(t, 24);
-            return call(run, list, want, n, t);
-        }
-    }
-    if is_wait(n, count) {
-        return wait_lines::replay(run, list, want, n, t);
-    }
-    unlike(run)
 }

@@ -1,6 +1,7 @@
 // The lines of a wait: a start, a turn and a drop. Each is compared with what the sample expects, and a turn is made as a run besides.
 ghost use Prim.Native.Nat.{_≤_};
 use crate::compare::Places;
+use crate::compare::push;
 use crate::lines::Line;
 use crate::refusals::all_refuse;
 use crate::refusals::changed;
@@ -15,6 +16,7 @@ use crate::waits::asked;
 use crate::waits::make;
 use crate::waits::pending;
 use crate::waits::record;
+use crate::waits::zeros;
 
 // Whether a line of so many numbers is one of a wait.
 pub(crate) fn is_wait(n: &Line, count: usize) -> bool {
@@ -49,54 +51,15 @@ fn told_at(n: &Line) -> usize
     1
 }
 
-// What the line expects of its call: the settings c, what stands in the line from `at` on, and a wait, of which it says nothing.
-fn due_at(c: &[u64; 8], n: &Line, at: usize, w: &Numbers) -> Numbers
-    requires { ⌜ at ≤ 11 ⌝ }
-{
-    [
-        c[0],
-        c[1],
-        c[2],
-        c[3],
-        c[4],
-        c[5],
-        c[6],
-        c[7],
-        n[at + 4],
-        n[at + 5],
-        n[at + 6],
-        n[at + 7],
-        n[at + 8],
-        n[at + 9],
-        n[at + 10],
-        n[at + 11],
-        w[16],
-        w[17],
-        w[18],
-        w[19],
-        w[20],
-        w[21],
-        w[22],
-        w[23],
-        n[at],
-        n[at + 1],
-        n[at + 2],
-        n[at + 3],
-        0,
-        0,
-        0,
-        0,
-        0,
-        0,
-        0,
-        0,
-        0,
-        0,
-    ]
-}
-
-fn due(c: &[u64; 8], n: &Line, w: &Numbers) -> Numbers {
-    due_at(c, n, told_at(n), w)
+// What the line expects of its call, with the settings c. It says nothing of the wait.
+fn due(c: &[u64; 8], n: &Line, left: &Numbers) -> Numbers {
+    let at = told_at(n);
+    let mut due = zeros();
+    push(&mut due, 0, c, 0, 8);
+    push(&mut due, 8, n, at + 4, 8);
+    push(&mut due, 16, left, 16, 8);
+    push(&mut due, 24, n, at, 4);
+    due
 }
 
 // Whether the wait has ended by this line.
@@ -125,27 +88,20 @@ fn course(due: &Numbers, n: &Line, number: u64) -> Numbers {
     next
 }
 
-// A turn as a run: its turns used up; its limit used up; and a second turn, which is refused.
-fn runs(list: &mut Places, want: &Places, a: &Numbers, due: &Numbers, n: &Line, t: &mut Tallies) {
-    let run = changed(a, 24, 7);
-    let more = changed(&run, 37, 2);
-    let two = changed(&run, 36, 16);
-    let refused = changed(&two, 37, 2);
-    let unfinished = course(due, n, 10);
-    comes_to(list, want, &more, &unfinished, t);
-    comes_to(list, want, &two, &unfinished, t);
-    comes_to(list, want, &refused, &course(due, n, 11), t);
+fn run(list: &mut Places, want: &Places, a: &Numbers, due: &Numbers, t: &mut Tallies) {
     tally(t, 25);
-    tally(t, 25);
-    tally(t, 25);
+    comes_to(list, want, a, due, t);
 }
 
-fn tally_line(t: &mut Tallies, kind: u64) {
-    match kind {
-        3 => tally(t, 21),
-        4 => tally(t, 22),
-        _ => tally(t, 23),
-    }
+// A turn as a run: its turns used up; its limit used up; and a second turn, which is refused.
+fn runs(list: &mut Places, want: &Places, a: &Numbers, due: &Numbers, n: &Line, t: &mut Tallies) {
+    let one = changed(a, 24, 7);
+    let two = changed(&one, 36, 16);
+    let unfinished = course(due, n, 10);
+    let refused = course(due, n, 11);
+    run(list, want, &changed(&one, 37, 2), &unfinished, t);
+    run(list, want, &two, &unfinished, t);
+    run(list, want, &changed(&two, 37, 2), &refused, t);
 }
 
 // Makes a line's call after its refusals, and compares it. A wait that has ended refuses all.
@@ -153,7 +109,6 @@ pub(crate) fn replay(run: Run, list: &mut Places, want: &Places, n: &Line, t: &m
     let config = run.config;
     let a = asked(run.breaker, run.pending, n);
     t[0] = 0;
-    tally_line(t, n[0]);
     all_refuse(list, want, &a, t);
     let left = make(list, &a);
     let due = due(&config, n, &left);

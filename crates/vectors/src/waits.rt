@@ -2,6 +2,7 @@
 ghost use Prim.Native.Nat.{_≤_};
 use crate::calls::narrow;
 use crate::compare::config_numbers;
+use crate::compare::push;
 use crate::compare::shared_numbers;
 use crate::lines::Line;
 use crate::told;
@@ -56,105 +57,36 @@ fn held(p: Pending) -> Held {
     ]
 }
 
-fn all_asked(c: &[u64; 8], h: &[u64; 8], w: &Held, n: &Line) -> Numbers {
-    [
-        c[0],
-        c[1],
-        c[2],
-        c[3],
-        c[4],
-        c[5],
-        c[6],
-        c[7],
-        h[0],
-        h[1],
-        h[2],
-        h[3],
-        h[4],
-        h[5],
-        h[6],
-        h[7],
-        w[0],
-        w[1],
-        w[2],
-        w[3],
-        w[4],
-        w[5],
-        w[6],
-        w[7],
-        n[0],
-        n[1],
-        n[2],
-        n[3],
-        n[4],
-        n[5],
-        n[6],
-        n[7],
-        n[8],
-        n[9],
-        n[10],
-        4096,
-        8,
-        1,
-    ]
+pub(crate) fn zeros() -> Numbers {
+    [0; 38]
+}
+
+fn standing(b: Breaker, p: Pending) -> Numbers {
+    let c = config_numbers(b.config);
+    let h = shared_numbers(b.shared);
+    let w = held(p);
+    let mut all = zeros();
+    push(&mut all, 0, &c, 0, 8);
+    push(&mut all, 8, &h, 0, 8);
+    push(&mut all, 16, &w, 0, 8);
+    all
 }
 
 // What a line asks of this breaker and this wait; a run has its one turn.
 pub(crate) fn asked(b: Breaker, p: Pending, n: &Line) -> Numbers {
-    let c = config_numbers(b.config);
-    let h = shared_numbers(b.shared);
-    let w = held(p);
-    all_asked(&c, &h, &w, n)
+    let mut all = standing(b, p);
+    push(&mut all, 24, n, 0, 11);
+    all[35] = 4096;
+    all[36] = 8;
+    all[37] = 1;
+    all
 }
 
-fn all_told(c: &[u64; 8], h: &[u64; 8], w: &Held, t: &Told, taken: u64) -> Numbers {
-    [
-        c[0],
-        c[1],
-        c[2],
-        c[3],
-        c[4],
-        c[5],
-        c[6],
-        c[7],
-        h[0],
-        h[1],
-        h[2],
-        h[3],
-        h[4],
-        h[5],
-        h[6],
-        h[7],
-        w[0],
-        w[1],
-        w[2],
-        w[3],
-        w[4],
-        w[5],
-        w[6],
-        w[7],
-        t[0],
-        t[1],
-        t[2],
-        t[3],
-        taken,
-        0,
-        0,
-        0,
-        0,
-        0,
-        0,
-        0,
-        0,
-        0,
-    ]
-}
-
-fn outcome(t: Told, taken: u64, b: Breaker, p: Pending) -> Numbers {
-    let c = config_numbers(b.config);
-    let h = shared_numbers(b.shared);
-    let w = held(p);
-    all_told(&c, &h, &w, &t, taken)
+fn outcome(told: Told, taken: u64, b: Breaker, p: Pending) -> Numbers {
+    let mut all = standing(b, p);
+    push(&mut all, 24, &told, 0, 4);
+    all[28] = taken;
+    all
 }
 
 fn config(a: &Numbers) -> Config {
@@ -247,24 +179,9 @@ fn leave(list: &mut [u64], a: &Numbers) -> Numbers {
 
 // The turn, and a second one of zeros, which is refused.
 fn two_turns(a: &Numbers) -> [u64; 16] {
-    [
-        a[27],
-        a[28],
-        a[29],
-        a[30],
-        a[31],
-        a[32],
-        a[33],
-        a[34],
-        0,
-        0,
-        0,
-        0,
-        0,
-        0,
-        0,
-        0,
-    ]
+    let mut turns = [0u64; 16];
+    push(&mut turns, 0, a, 27, 8);
+    turns
 }
 
 fn run_of(list: &mut [u64], a: &Numbers, turns: &[u64]) -> Numbers {

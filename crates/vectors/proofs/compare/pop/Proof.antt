@@ -1,11 +1,13 @@
--- `vectors::compare::pop` is safe and ends. The loop's invariant: it does not pass its end. Assumes nothing.
-use Prim.Native.Nat.{_≤_, _-_}
+-- `vectors::compare::pop` is safe and ends. The loop's invariant: the list keeps its length. Assumes nothing.
+use Prim.Native.Nat.{_-_}
+use mathlib.Core.Path.{_≡_}
 use borrow.Author.Needs.{needs}
+use lib.ListN.{length}
 use Rattle.vectors.proofs.compare.pop.Statement.{statement}
 use Rattle.vectors.proofs.compare.pop.Tie as tie
 
 abbrev Inv-loop : tie.InvT-loop
-Inv-loop list₀ k i₀ list i = i ≤ 4096
+Inv-loop list₀ k i₀ list i = length list ≡ length list₀
 
 abbrev μ-loop : tie.MeasureT-loop
 μ-loop list₀ k i₀ list i = 4096 - i
@@ -31,6 +33,9 @@ loop-less c = search needs
 loop-again : tie.Need-loop-again Inv-loop μ-loop
 loop-again c = search needs
 
+same-length : tie.Need-same-length Inv-loop μ-loop
+same-length c = search needs
+
 returns : tie.Need-returns Inv-loop μ-loop
 returns c = search needs
 
@@ -47,4 +52,5 @@ pop-spec =
     add-i
     loop-less
     loop-again
+    same-length
     returns)
