@@ -4,7 +4,7 @@ use throttle::plain::{self, Call, State};
 use throttle::scope::PLACES;
 
 use crate::task::{CALLS, Task};
-use archive::ffi::{self, Breaker, Config, Shared, Ticket};
+use archive::ffi::{self, Breaker, Ticket};
 
 /// A record and its storage.
 pub struct Ours {
@@ -22,26 +22,8 @@ impl Ours {
 
     pub fn set(&mut self, config: plain::Config, state: &State) {
         self.breaker = Breaker {
-            config: Config {
-                kind: config.kind,
-                limit: config.limit,
-                ratio_bits: config.ratio_bits,
-                min_calls: config.min_calls,
-                period_ms: config.period_ms,
-                cooldown_ms: config.cooldown_ms,
-                trials: config.trials,
-                required: config.required,
-            },
-            shared: Shared {
-                state: state.state,
-                generation: state.generation,
-                run: state.run,
-                inflight: state.inflight,
-                trait_probes: state.trait_probes,
-                successes: state.successes,
-                open_until: state.open_until,
-                len: state.items.len() as u32,
-            },
+            config: archive::config(&config),
+            shared: archive::shared(state),
         };
         let (items, rest) = self.list.split_at_mut(state.items.len());
         items.copy_from_slice(&state.items);
