@@ -69,7 +69,8 @@ int main(void) {
     TIME("count_failures, 100 outcomes", leaf_failures(list, PLACES, 100));
     TIME("push_outcome, window 100, full", leaf_push_outcome(list, PLACES, 100, 100, i % 2));
     for (size_t i = 0; i < PLACES; i++) list[i] = 1000 + i;
-    TIME("count_recent, 4,096 times", leaf_recent(list, PLACES, PLACES, 3000));
+    TIME("count_recent, 4,096 times, all recent", leaf_recent(list, PLACES, PLACES, list[0]));
+    TIME("count_recent, 4,096 times, not all", leaf_recent(list, PLACES, PLACES, 3000));
     TIME("  C: count of 4,096 by a comparison", c_recent(list, PLACES, 3000));
     TIME("push_time, 4,096 times, 1 evicted", leaf_push_time(list, PLACES, PLACES, list[PLACES - 1] + 1, PLACES - 1));
     TIME("push_time, 4,096 times, refused", leaf_push_time(list, PLACES, PLACES, list[PLACES - 1], UINT64_MAX));

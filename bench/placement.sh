@@ -10,6 +10,6 @@ echo '|---|---|---|---|---|---|---|---|'
 for pad in 1 17 33 49; do
     printf '.section .text.padding,"ax",@progbits\n.skip %d, 0x90\n.section .note.GNU-stack,"",@progbits\n' "$pad" > "$work/pad.s"
     cc -O3 -Wall -Wextra -Iinclude -o "$work/placement" bench/placement.c "$work/pad.s" "$lib"
-    at=$(nm "$work/placement" | awk '$3 == "circuit::is_sound" { print $1 }')
+    at=$(nm "$work/placement" | awk '$3 == "breaker::is_sound" { print $1 }')
     printf '| %d%s\n' $((0x$at % 64)) "$("$work/placement")"
 done

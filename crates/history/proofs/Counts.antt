@@ -3,21 +3,24 @@
 --     sum-turn        a turn of a loop that counts items by a test
 --     count-le        a count is at most the length
 --     total-failures  the sum of outcomes is how many failed
+--     recent-more, recent-next   differences without the top bit are of items at or after the cutoff
 use mathlib.Core.Path.{_≡_, refl, sym, ap, ap₂, _∙_}
 use mathlib.Core.Logic.{_⊎_, inl, inr}
 use mathlib.Core.Bool.{Bool, true, false, _&&_}
 use mathlib.Core.List.{List, [], _∷_, _++_}
-use Prim.Native.Nat.{ℕ, zero, suc, _+_, _≤_, _<_, zero-le}
+use Prim.Native.Nat.{ℕ, zero, suc, _+_, _-_, _≤_, _<_, _^_, _%_, zero-le}
 use native.Mathlib.Nat.{zero-add, add-zero, add-assoc}
 use native.Mathlib.Numerals.{add-one}
 use native.Mathlib.Omega.{arith}
-use lib.ListN.{length, take, getD, length-take}
+use lib.Bits.{bitOr, or-comm}
+use lib.ListN.{length, take, getD, length-take, length-append}
 use lib.Seq.{take-suc}
-use lib.Dec.{ltb, eqb}
-use borrow.Author.Tests.{ltb-true}
+use lib.Dec.{ltb, leb, eqb}
+use borrow.Author.Tests.{ltb-true, le-leb}
 use Rattle.error.specs.Choice.{if_then_else_}
-use Rattle.history.specs.Items.{allBelow, sumOf, total, failures}
+use Rattle.history.specs.Items.{allBelow, sumOf, total, failures, recent}
 use Rattle.error.proofs.Choice.{and-split}
+use Rattle.history.proofs.Laws.{or-ge}
 
 pub sum-append : (f : ℕ → ℕ) (xs ys : List ℕ) → sumOf f (xs ++ ys) ≡ sumOf f xs + sumOf f ys
 unfolding sumOf
@@ -62,3 +65,24 @@ total-failures (x ∷ xs) e =
     outcome zero h = refl
     outcome (suc zero) h = refl
     outcome (suc (suc x)) h = absurd (omega arith)
+
+-- a sum in two parts, wrapping
+pub total-more : (a b r : ℕ) (xs ys zs : List ℕ) → a ≡ total xs % 2 ^ 64 → b ≡ total ys % 2 ^ 64 → r ≡ (a + b) % 2 ^ 64 → xs ++ ys ≡ zs → r ≡ total zs % 2 ^ 64
+total-more a b r xs ys zs p q e w = rw (← w, sum-append) (omega (arith, p, q, e))
+
+-- below 2^63 a difference that is below 2^63 is of an item at or after the cutoff
+abbrev pub AllRecent : ℕ → ℕ → List ℕ → Type 0
+AllRecent cutoff bits xs = bits < 2 ^ 63 → cutoff < 2 ^ 63 → recent cutoff xs ≡ length xs
+
+pub recent-more : (cutoff a b : ℕ) (xs ys zs : List ℕ) → AllRecent cutoff a xs → AllRecent cutoff b ys → xs ++ ys ≡ zs → AllRecent cutoff (bitOr a b) zs
+recent-more cutoff a b xs ys zs p q e l h =
+    rw (← e, sum-append, length-append, p (omega (arith, or-ge a b)) h, q (omega (arith, or-ge b a, or-comm a b)) h)
+
+pub recent-next : (cutoff a d : ℕ) (s : List ℕ) (i : ℕ) → i < length s → AllRecent cutoff a (take i s) → (d + cutoff) % 2 ^ 64 ≡ getD s i 0
+    → AllRecent cutoff (bitOr a d) (take (i + 1) s)
+unfolding sumOf
+recent-next cutoff a d s i h p e =
+    recent-more cutoff a d (take i s) (getD s i 0 ∷ []) (take (i + 1) s) p (one (getD s i 0) e) (sym (take-suc s i 0 h) ∙ ap (λ (n : ℕ). take n s) (sym (add-one i)))
+  where
+    one : (x : ℕ) → (d + cutoff) % 2 ^ 64 ≡ x → AllRecent cutoff d (x ∷ [])
+    one x e l h = rw (le-leb cutoff x (omega arith))

@@ -26,7 +26,7 @@ pub enum Changed {
 }
 
 // The bits that any element of `s` has: below a power of two where every element is.
-fn any_bits(s: &[u64]) -> u64
+fn bits_in_turn(s: &[u64]) -> u64
     ensures { λ r. ⌜ ((k : ℕ) → ltb r (2 ^ k) ≡ allBelow (2 ^ k) (now (s .entry))) ⌝ }
 {
     let mut bits: u64 = 0;
@@ -36,6 +36,28 @@ fn any_bits(s: &[u64]) -> u64
         i += 1;
     }
     bits
+}
+
+// The same for long slices, in blocks whose length the compiler knows: it then needs no loop within them.
+fn any_bits(s: &[u64]) -> u64
+    ensures { λ r. ⌜ ((k : ℕ) → ltb r (2 ^ k) ≡ allBelow (2 ^ k) (now (s .entry))) ⌝ }
+{
+    let mut bits: u64 = 0;
+    let mut i: usize = 0;
+    while s.len() - i >= 32 {
+        bits |= bits_in_turn(&s[i..i + 32]);
+        i += 32;
+    }
+    bits | bits_in_turn(&s[i..])
+}
+
+// The bits that any place from n on has. From the next even place on they are read in pairs that no cache line divides.
+fn bits_from(list: &[u64], n: usize) -> u64
+    requires { ⌜ (length (now list) ≡ 4096) × (n ≤ 4096) ⌝ }
+    ensures { λ r. ⌜ ((k : ℕ) → ltb r (2 ^ k) ≡ allBelow (2 ^ k) (drop n (now (list .entry)))) ⌝ }
+{
+    let even = n + n % 2;
+    bits_in_turn(&list[n..even]) | any_bits(&list[even..])
 }
 
 // Whether a list of the kind may have this length.
@@ -69,7 +91,7 @@ pub fn sound_list(list: &[u64], len: u32, items: Items) -> bool
         return false;
     }
     let n = len as usize;
-    let past = any_bits(&list[n..]);
+    let past = bits_from(list, n);
     if past >= 1 {
         return false;
     }
@@ -92,7 +114,7 @@ fn within(len: u32, places: usize) -> usize
 }
 
 // The sum of the elements, wrapping.
-fn sum(s: &[u64]) -> u64
+fn sum_in_turn(s: &[u64]) -> u64
     ensures { λ r. ⌜ r ≡ total (now (s .entry)) % 2 ^ 64 ⌝ }
 {
     let mut n: u64 = 0;
@@ -104,8 +126,48 @@ fn sum(s: &[u64]) -> u64
     n
 }
 
-// How many elements are at least `cutoff`.
-fn at_or_after(s: &[u64], cutoff: u64) -> u64
+// The same for long slices, in blocks as in `any_bits`.
+fn sum(s: &[u64]) -> u64
+    ensures { λ r. ⌜ r ≡ total (now (s .entry)) % 2 ^ 64 ⌝ }
+{
+    let mut n: u64 = 0;
+    let mut i: usize = 0;
+    while s.len() - i >= 32 {
+        n = std::num::wrapping_add_u64(n, sum_in_turn(&s[i..i + 32]));
+        i += 32;
+    }
+    std::num::wrapping_add_u64(n, sum_in_turn(&s[i..]))
+}
+
+// The bits that any difference to `cutoff` has, wrapping: where the top one is missing, every element is at or after a cutoff below 2^63.
+// Baseline x86-64 has no comparison of vectors of 64-bit numbers, but a subtraction.
+fn differences_in_turn(s: &[u64], cutoff: u64) -> u64
+    ensures { λ r. ⌜ (r < 2 ^ 63 → cutoff < 2 ^ 63 → recent cutoff (now (s .entry)) ≡ length (now (s .entry))) ⌝ }
+{
+    let mut bits: u64 = 0;
+    let mut i: usize = 0;
+    while i < s.len() {
+        bits |= std::num::wrapping_sub_u64(s[i], cutoff);
+        i += 1;
+    }
+    bits
+}
+
+// The same for long slices, in blocks as in `any_bits`.
+fn differences(s: &[u64], cutoff: u64) -> u64
+    ensures { λ r. ⌜ (r < 2 ^ 63 → cutoff < 2 ^ 63 → recent cutoff (now (s .entry)) ≡ length (now (s .entry))) ⌝ }
+{
+    let mut bits: u64 = 0;
+    let mut i: usize = 0;
+    while s.len() - i >= 32 {
+        bits |= differences_in_turn(&s[i..i + 32], cutoff);
+        i += 32;
+    }
+    bits | differences_in_turn(&s[i..], cutoff)
+}
+
+// How many elements are at least `cutoff`, by a comparison of each.
+fn compared(s: &[u64], cutoff: u64) -> u64
     ensures { λ r. ⌜ r ≡ recent cutoff (now (s .entry)) ⌝ }
 {
     let mut n: u64 = 0;
@@ -117,6 +179,16 @@ fn at_or_after(s: &[u64], cutoff: u64) -> u64
         i += 1;
     }
     n
+}
+
+// How many elements are at least `cutoff`: mostly all, which needs no comparison.
+fn at_or_after(s: &[u64], cutoff: u64) -> u64
+    ensures { λ r. ⌜ r ≡ recent cutoff (now (s .entry)) ⌝ }
+{
+    if (differences(s, cutoff) | cutoff) >> 63 == 0 {
+        return s.len() as u64;
+    }
+    compared(s, cutoff)
 }
 
 // How many outcomes of the list failed: the sum of its zeros and ones. Of other numbers the sum wraps.
@@ -138,6 +210,18 @@ pub fn count_recent(list: &[u64], len: u32, cutoff: u64) -> u32
 }
 
 // Moves the n elements from k on down to the front.
+fn shift(s: &mut [u64], k: usize, n: usize)
+    requires { ⌜ k + n ≤ length (now s) ⌝ }
+    ensures { λ _. ⌜ now (s .exit) ≡ take n (drop k (now (s .entry))) ++ drop n (now (s .entry)) ⌝ }
+{
+    let mut i: usize = 0;
+    while i < n {
+        s[i] = s[k + i];
+        i += 1;
+    }
+}
+
+// The same. The compiler makes one move of a loop whose distance it knows, and 1 is the most frequent.
 fn slide(s: &mut [u64], k: usize, n: usize)
     requires { ⌜ k + n ≤ length (now s) ⌝ }
     ensures { λ _. ⌜ now (s .exit) ≡ take n (drop k (now (s .entry))) ++ drop n (now (s .entry)) ⌝ }
@@ -145,11 +229,11 @@ fn slide(s: &mut [u64], k: usize, n: usize)
     if k == 0 {
         return;
     }
-    let mut i: usize = 0;
-    while i < n {
-        s[i] = s[k + i];
-        i += 1;
+    if k == 1 {
+        shift(s, 1, n);
+        return;
     }
+    shift(s, k, n);
 }
 
 // Writes 0 to every place.

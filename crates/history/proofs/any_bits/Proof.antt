@@ -1,21 +1,17 @@
--- `history::any_bits` meets its contract. The loop's invariant: the bits so far are below a power of two exactly where every item passed is. Assumes nothing.
-use Prim.Native.Nat.{ℕ, _≤_, _-_, _^_}
-use mathlib.Core.Path.{_≡_, refl, sym, ap, _∙_}
-use mathlib.Core.Bool.{Bool, _&&_}
+-- `history::any_bits` meets its contract. The loop's invariant: the bits so far are those of every item passed. Assumes nothing.
+use Prim.Native.Nat.{ℕ, _+_, _≤_, _-_, _^_}
 use native.Mathlib.Omega.{arith}
 use borrow.Author.Needs.{needs}
-use lib.ListN.{length, take, getD}
-use lib.Seq.{take-all}
-use lib.Dec.{ltb}
+use lib.ListN.{length, take}
 use lib.Pow.{pow-pos}
 use borrow.Author.Tests.{lt-ltb}
 use Rattle.history.specs.Items.{allBelow}
-use Rattle.history.proofs.Laws.{or-below, below-more}
+use Rattle.history.proofs.Laws.{BitsOf, bits-more, take-part, take-whole}
 use Rattle.history.proofs.any_bits.Statement.{statement}
 use Rattle.history.proofs.any_bits.Tie as tie
 
 abbrev Inv-loop : tie.InvT-loop
-Inv-loop s bits₀ i₀ bits i = (i ≤ length s) × ((k : ℕ) → ltb bits (2 ^ k) ≡ allBelow (2 ^ k) (take i s))
+Inv-loop s bits₀ i₀ bits i = (i ≤ length s) × BitsOf bits (take i s)
 
 abbrev μ-loop : tie.MeasureT-loop
 μ-loop s bits₀ i₀ bits i = length s - i
@@ -24,11 +20,26 @@ loop-holds : tie.Need-loop-holds Inv-loop μ-loop
 unfolding allBelow
 loop-holds c = (search needs, λ k. lt-ltb 0 (2 ^ k) (pow-pos k))
 
-mul-bits : tie.Need-mul-bits Inv-loop μ-loop
-mul-bits c = search needs
+sub-loop : tie.Need-sub-loop Inv-loop μ-loop
+sub-loop c = search needs
 
-shared-slice-read-bits : tie.Need-shared-slice-read-bits Inv-loop μ-loop
-shared-slice-read-bits c = search needs
+add-bits-in-turn : tie.Need-add-bits-in-turn Inv-loop μ-loop
+add-bits-in-turn c = search needs
+
+mul-bits-in-turn : tie.Need-mul-bits-in-turn Inv-loop μ-loop
+mul-bits-in-turn c = search needs
+
+sub-bits-in-turn : tie.Need-sub-bits-in-turn Inv-loop μ-loop
+sub-bits-in-turn c = search needs
+
+part-bits-in-turn-start : tie.Need-part-bits-in-turn-start Inv-loop μ-loop
+part-bits-in-turn-start c = search needs
+
+part-bits-in-turn-end : tie.Need-part-bits-in-turn-end Inv-loop μ-loop
+part-bits-in-turn-end c = search needs
+
+bits-in-turn-requires : tie.Need-bits-in-turn-requires Inv-loop μ-loop
+bits-in-turn-requires c κs = search needs
 
 add-i : tie.Need-add-i Inv-loop μ-loop
 add-i c = search needs
@@ -37,18 +48,25 @@ loop-less : tie.Need-loop-less Inv-loop μ-loop
 loop-less c = search needs
 
 loop-again : tie.Need-loop-again Inv-loop μ-loop
-loop-again c =
-    let a = c .before .before .loop in
-    let s = c .before .before .before .args .s .now in (
-      search needs,
-      λ k. or-below k (a .bits) (getD s (a .i) 0)
-          ∙ ap (λ (t : Bool). t && ltb (getD s (a .i) 0) (2 ^ k)) (a .inv .1 k)
-          ∙ sym (below-more (2 ^ k) s (a .i) (c .before .loop-test .taken)),
-    )
+loop-again c = (search needs, bits-more _ _ _ _ _ (c .before .before .before .loop .inv .1) (c .bits-in-turn .ensures) (take-part (c .before .before .before .loop .i) (c .before .before .before .loop .i + 32) (c .before .before .before .before .before .args .s .now) (omega arith)))
+
+mul-bits-in-turn-2 : tie.Need-mul-bits-in-turn-2 Inv-loop μ-loop
+mul-bits-in-turn-2 c = search needs
+
+sub-bits-in-turn-2 : tie.Need-sub-bits-in-turn-2 Inv-loop μ-loop
+sub-bits-in-turn-2 c = search needs
+
+part-bits-in-turn-start-2 : tie.Need-part-bits-in-turn-start-2 Inv-loop μ-loop
+part-bits-in-turn-start-2 c = search needs
+
+part-bits-in-turn-end-2 : tie.Need-part-bits-in-turn-end-2 Inv-loop μ-loop
+part-bits-in-turn-end-2 c = search needs
+
+bits-in-turn-requires-2 : tie.Need-bits-in-turn-requires-2 Inv-loop μ-loop
+bits-in-turn-requires-2 c κs = search needs
 
 returns : tie.Need-returns Inv-loop μ-loop
-returns c =
-    λ k. c .before .loop .inv .1 k ∙ ap (allBelow (2 ^ k)) (take-all (c .before .loop .i) (c .before .before .args .s .now) (c .loop-test .left))
+returns c = bits-more _ _ _ _ _ (c .before .before .before .loop .inv .1) (c .bits-in-turn2 .ensures) (take-whole (c .before .before .before .loop .i) (c .before .before .before .before .before .args .s .now))
 
 pub any-bits-spec : {M : Type 1} → statement M
 any-bits-spec =
@@ -57,9 +75,19 @@ any-bits-spec =
     Inv-loop
     μ-loop
     loop-holds
-    mul-bits
-    shared-slice-read-bits
+    sub-loop
+    add-bits-in-turn
+    mul-bits-in-turn
+    sub-bits-in-turn
+    part-bits-in-turn-start
+    part-bits-in-turn-end
+    bits-in-turn-requires
     add-i
     loop-less
     loop-again
+    mul-bits-in-turn-2
+    sub-bits-in-turn-2
+    part-bits-in-turn-start-2
+    part-bits-in-turn-end-2
+    bits-in-turn-requires-2
     returns)

@@ -5,11 +5,10 @@ use mathlib.Core.Bool.{true, _&&_}
 use native.Mathlib.Omega.{arith}
 use borrow.Author.Needs.{needs}
 use borrow.Author.Tests.{eq-eqb, ne-eqb, lt-ltb, le-ltb, not-true, not-false}
-use lib.ListN.{length, drop}
+use lib.ListN.{length}
 use lib.Seq.{length-take-le}
 use lib.Dec.{ltb}
-use Rattle.history.specs.Items.{soundList, allBelow, known, fits, view}
-use Rattle.history.proofs.Laws.{take-rest}
+use Rattle.history.specs.Items.{soundList, known, fits, view}
 use Rattle.history.proofs.Sound.{fits-le}
 use Rattle.history.proofs.sound_list.Statement.{statement}
 use Rattle.history.proofs.sound_list.Tie as tie
@@ -25,34 +24,16 @@ returns-2 : tie.Need-returns-2
 unfolding soundList
 returns-2 c = simp (eq-eqb _ _ (c .before .before .if1 .left), ← c .before .may-have .ensures, not-true (c .before .may-have .result) (c .if2 .taken))
 
-mul-any-bits : tie.Need-mul-any-bits
-mul-any-bits c = search needs
-
 fitting : (c : tie.Else2) → fits (c .before .before .before .before .args .items) (c .before .before .before .before .args .len) ≡ true
 fitting c = sym (c .before .may-have .ensures) ∙ not-false (c .before .may-have .result) (c .if2 .left)
 
-short : (c : tie.Else2) → c .before .before .before .before .args .len ≤ length (c .before .before .before .before .args .list .now)
-short c = omega (arith, fits-le (c .before .before .before .before .args .items) (c .before .before .before .before .args .len) (fitting c), c .before .before .if1 .left)
-
-sub-any-bits : tie.Need-sub-any-bits
-sub-any-bits c = short c
-
-part-any-bits-start : tie.Need-part-any-bits-start
-part-any-bits-start c = short c
-
-part-any-bits-end : tie.Need-part-any-bits-end
-part-any-bits-end c = search needs
-
-any-bits-requires : tie.Need-any-bits-requires
-any-bits-requires c κs = search needs
+bits-from-requires : tie.Need-bits-from-requires
+bits-from-requires c κs = (c .before .before .if1 .left, fits-le (c .before .before .before .before .args .items) (c .before .before .before .before .args .len) (fitting c))
 
 -- what is left to test: the bits past the list, and the items
-past : (c : tie.After-any-bits) → soundList (c .before .before .before .before .before .before .args .items) (c .before .before .before .before .before .before .args .len) (c .before .before .before .before .before .before .args .list .now) ≡ (ltb (c .any-bits .result) 1 && known (c .before .before .before .before .before .before .args .items) (view (c .before .before .before .before .before .before .args .len) (c .before .before .before .before .before .before .args .list .now)))
+past : (c : tie.After-bits-from) → soundList (c .before .before .before .before .before .args .items) (c .before .before .before .before .before .args .len) (c .before .before .before .before .before .args .list .now) ≡ (ltb (c .bits-from .result) 1 && known (c .before .before .before .before .before .args .items) (view (c .before .before .before .before .before .args .len) (c .before .before .before .before .before .args .list .now)))
 unfolding soundList
-past c =
-    let e : ltb (c .any-bits .result) 1 ≡ allBelow 1 (drop (c .before .before .before .before .before .before .args .len) (c .before .before .before .before .before .before .args .list .now)) =
-    c .any-bits .ensures 0 ∙ ap (allBelow 1) (take-rest (c .before .before .before .before .before .before .args .len) (c .before .before .before .before .before .before .args .list .now)) in
-    simp (eq-eqb _ _ (c .before .before .before .before .if1 .left), fitting (c .before .before), e)
+past c = simp (eq-eqb _ _ (c .before .before .before .if1 .left), fitting (c .before), ← c .bits-from .ensures 0)
 
 returns-3 : tie.Need-returns-3
 returns-3 c = sym (past (c .before) ∙ simp (le-ltb _ _ (c .if3 .taken)))
@@ -64,10 +45,10 @@ enum-told-2 : tie.Need-enum-told-2
 enum-told-2 c = search needs
 
 slice-aggregate-any-bits : tie.Need-slice-aggregate-any-bits
-slice-aggregate-any-bits c = sym (length-take-le _ _ (short (c .before .before .before .before .before .before)))
+slice-aggregate-any-bits c = sym (length-take-le _ _ (omega (arith, fits-le (c .before .before .before .before .before .before .before .before .before .args .items) (c .before .before .before .before .before .before .before .before .before .args .len) (fitting (c .before .before .before .before .before)), c .before .before .before .before .before .before .before .if1 .left)))
 
-any-bits-requires-2 : tie.Need-any-bits-requires-2
-any-bits-requires-2 c κs = search needs
+any-bits-requires : tie.Need-any-bits-requires
+any-bits-requires c κs = search needs
 
 enum-told-3 : tie.Need-enum-told-3
 enum-told-3 c = search needs
@@ -76,7 +57,7 @@ returns-4 : tie.Need-returns-4
 returns-4 c = sym (past (c .before .before .before) ∙ simp (lt-ltb _ _ (c .before .before .if3 .left), c .enum-told .given .1))
 
 returns-5 : tie.Need-returns-5
-returns-5 c = c .any-bits2 .ensures 1 ∙ sym (past (c .before .before .before .before .before) ∙ simp (lt-ltb _ _ (c .before .before .before .before .if3 .left), c .before .before .enum-told2 .given .1))
+returns-5 c = c .any-bits .ensures 1 ∙ sym (past (c .before .before .before .before .before) ∙ simp (lt-ltb _ _ (c .before .before .before .before .if3 .left), c .before .before .enum-told2 .given .1))
 
 returns-6 : tie.Need-returns-6
 returns-6 c = sym (past (c .before .before .before) ∙ simp (lt-ltb _ _ (c .before .before .if3 .left), c .enum-told3 .given .1))
@@ -88,16 +69,12 @@ sound-list-spec =
     returns
     may-have-requires
     returns-2
-    mul-any-bits
-    sub-any-bits
-    part-any-bits-start
-    part-any-bits-end
-    any-bits-requires
+    bits-from-requires
     returns-3
     enum-told
     enum-told-2
     slice-aggregate-any-bits
-    any-bits-requires-2
+    any-bits-requires
     enum-told-3
     returns-4
     returns-5

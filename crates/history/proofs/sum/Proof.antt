@@ -1,12 +1,12 @@
 -- `history::sum` meets its contract. The loop's invariant: the sum is that of the elements passed, wrapped. Assumes nothing.
-use Prim.Native.Nat.{ℕ, _≤_, _-_, _%_, _^_}
-use mathlib.Core.Path.{_≡_, refl, ap, _∙_}
+use Prim.Native.Nat.{ℕ, _+_, _≤_, _-_, _%_, _^_}
+use mathlib.Core.Path.{_≡_, refl}
 use native.Mathlib.Omega.{arith}
 use borrow.Author.Needs.{needs}
 use lib.ListN.{length, take}
-use lib.Seq.{take-all}
 use Rattle.history.specs.Items.{sumOf, total}
-use Rattle.history.proofs.Counts.{sum-more}
+use Rattle.history.proofs.Counts.{total-more}
+use Rattle.history.proofs.Laws.{take-part, take-whole}
 use Rattle.history.proofs.sum.Statement.{statement}
 use Rattle.history.proofs.sum.Tie as tie
 
@@ -20,11 +20,26 @@ loop-holds : tie.Need-loop-holds Inv-loop μ-loop
 unfolding sumOf
 loop-holds c = (search needs, refl)
 
-mul-wrapping-add-u64 : tie.Need-mul-wrapping-add-u64 Inv-loop μ-loop
-mul-wrapping-add-u64 c = search needs
+sub-loop : tie.Need-sub-loop Inv-loop μ-loop
+sub-loop c = search needs
 
-shared-slice-read-wrapping-add-u64 : tie.Need-shared-slice-read-wrapping-add-u64 Inv-loop μ-loop
-shared-slice-read-wrapping-add-u64 c = search needs
+add-sum-in-turn : tie.Need-add-sum-in-turn Inv-loop μ-loop
+add-sum-in-turn c = search needs
+
+mul-sum-in-turn : tie.Need-mul-sum-in-turn Inv-loop μ-loop
+mul-sum-in-turn c = search needs
+
+sub-sum-in-turn : tie.Need-sub-sum-in-turn Inv-loop μ-loop
+sub-sum-in-turn c = search needs
+
+part-sum-in-turn-start : tie.Need-part-sum-in-turn-start Inv-loop μ-loop
+part-sum-in-turn-start c = search needs
+
+part-sum-in-turn-end : tie.Need-part-sum-in-turn-end Inv-loop μ-loop
+part-sum-in-turn-end c = search needs
+
+sum-in-turn-requires : tie.Need-sum-in-turn-requires Inv-loop μ-loop
+sum-in-turn-requires c κs = search needs
 
 wrapping-add-u64-requires : tie.Need-wrapping-add-u64-requires Inv-loop μ-loop
 wrapping-add-u64-requires c κs = search needs
@@ -36,10 +51,28 @@ loop-less : tie.Need-loop-less Inv-loop μ-loop
 loop-less c = search needs
 
 loop-again : tie.Need-loop-again Inv-loop μ-loop
-loop-again c = (search needs, omega (arith, c .wrapping-add-u64 .ensures, c .before .before .before .loop .inv .1, sum-more (λ x. x) (c .before .before .before .before .before .args .s .now) (c .before .before .before .loop .i) (c .before .before .loop-test .taken)))
+loop-again c = (search needs, total-more _ _ _ _ _ _ (c .before .before .before .before .loop .inv .1) (c .before .sum-in-turn .ensures) (c .wrapping-add-u64 .ensures) (take-part (c .before .before .before .before .loop .i) (c .before .before .before .before .loop .i + 32) (c .before .before .before .before .before .before .args .s .now) (omega arith)))
+
+mul-sum-in-turn-2 : tie.Need-mul-sum-in-turn-2 Inv-loop μ-loop
+mul-sum-in-turn-2 c = search needs
+
+sub-sum-in-turn-2 : tie.Need-sub-sum-in-turn-2 Inv-loop μ-loop
+sub-sum-in-turn-2 c = search needs
+
+part-sum-in-turn-start-2 : tie.Need-part-sum-in-turn-start-2 Inv-loop μ-loop
+part-sum-in-turn-start-2 c = search needs
+
+part-sum-in-turn-end-2 : tie.Need-part-sum-in-turn-end-2 Inv-loop μ-loop
+part-sum-in-turn-end-2 c = search needs
+
+sum-in-turn-requires-2 : tie.Need-sum-in-turn-requires-2 Inv-loop μ-loop
+sum-in-turn-requires-2 c κs = search needs
+
+wrapping-add-u64-requires-2 : tie.Need-wrapping-add-u64-requires-2 Inv-loop μ-loop
+wrapping-add-u64-requires-2 c κs = search needs
 
 returns : tie.Need-returns Inv-loop μ-loop
-returns c = c .before .loop .inv .1 ∙ ap (λ t. total t % 2 ^ 64) (take-all (c .before .loop .i) (c .before .before .before .args .s .now) (c .loop-test .left))
+returns c = total-more _ _ _ _ _ _ (c .before .before .before .before .loop .inv .1) (c .before .sum-in-turn2 .ensures) (c .wrapping-add-u642 .ensures) (take-whole (c .before .before .before .before .loop .i) (c .before .before .before .before .before .before .args .s .now))
 
 pub sum-spec : {M : Type 1} → statement M
 sum-spec =
@@ -48,10 +81,21 @@ sum-spec =
     Inv-loop
     μ-loop
     loop-holds
-    mul-wrapping-add-u64
-    shared-slice-read-wrapping-add-u64
+    sub-loop
+    add-sum-in-turn
+    mul-sum-in-turn
+    sub-sum-in-turn
+    part-sum-in-turn-start
+    part-sum-in-turn-end
+    sum-in-turn-requires
     wrapping-add-u64-requires
     add-i
     loop-less
     loop-again
+    mul-sum-in-turn-2
+    sub-sum-in-turn-2
+    part-sum-in-turn-start-2
+    part-sum-in-turn-end-2
+    sum-in-turn-requires-2
+    wrapping-add-u64-requires-2
     returns)
