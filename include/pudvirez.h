@@ -18,8 +18,8 @@
  *     4  record or list not sound                     8  the inner limiter says impossible; v1 is the cost 1, v2 the capacity
  *                                                    11  an unknown reply kind
  *
- * `v1` and `v2` are the values in their order, and 0 where there is none. They are tested in the order 3, 4, 11, 1, 2; the rest as the
- * rules meet them. A call that tells 1 to 6 or 11 leaves the record and every place as they were. After 7 and 8 the admission has been
+ * `v1` and `v2` are the values in their order, and 0 where there is none. The refusals are tested in the order 3, 4, 11, 1, 2; the rest as
+ * the rules meet them. A call that tells 1 to 6 or 11 leaves the record and every place as they were. After 7 and 8 the admission has been
  * given back; a transition that it made stays. For the calls of a wait see below.
  *
  * A call may wait for its inner limiter. pudvirez_wait_start admits it and makes a PudvirezPending; each pudvirez_wait_turn takes what
@@ -127,7 +127,8 @@ typedef struct {
 
 /* What the host read for a turn. Of each pair the first was read before the inner limiter was asked for 1 unit, the second after it.
  * Epochs are any numbers; the rest but the kind are nanoseconds, at most 2^62. While a grant is held nothing is asked: any known kind
- * will do, and of the numbers only the clock, the pause and the second of each pair count. */
+ * will do, and of the numbers only the clock, the pause and the second of each pair count. Ask for a grant within what remains to the
+ * deadline (deadline - clock, not below 0), as the Rust does: a grant's duration is slept whatever remains. */
 typedef struct {
     uint64_t clock;
     uint64_t epoch_before; /* how often the limiter was resumed */
@@ -154,7 +155,7 @@ typedef struct {
  * Refuses with 3, with 4 for a kind other than 1 to 3, with 1 (cooldown, then period) and with 2; all is left as it was. */
 PudvirezTold pudvirez_build(PudvirezBreaker *breaker, uint64_t *list, size_t places, PudvirezSetting setting);
 
-/* ---- calls that may change the breaker; each refuses with 3 and 4 first, and refused leaves all as it was */
+/* ---- calls that may change the breaker; each refuses with 3 and 4 first, and told 1 to 6 or 11 it leaves all as it was */
 
 /* Admits a call, through the trait side or not. Tells 0 with the ticket: v1 its generation, v2 its probe flag (0 or 1).
  * Open from open-until on, it goes HalfOpen; a probe adds 1 to inflight, through the trait side to trait probes too.
@@ -229,8 +230,8 @@ PudvirezWaited pudvirez_wait_start(PudvirezBreaker *breaker, uint64_t *list, siz
  *     v1 = 2  sleep v2 nanoseconds, unless the limiter   v1 = 4  look again at once
  *             is resumed past epoch v3                   v1 = 0  nothing: the call is admitted, v2 is the generation of its ticket and v3
  *                                                                the probe flag (0 or 1), and the wait has ended
- * now_ms is read where the wait ends: the breaker must still admit the ticket, else 6. Refuses with 11 and 1, and ends the wait with 6,
- * with 8 and this capacity, or with 9. */
+ * now_ms is read only where the grant may be used: the breaker must still admit the ticket, else 6. Refuses with 11 and 1, and ends the wait
+ * with 6, with 8 and this capacity, or with 9. */
 PudvirezWaited pudvirez_wait_turn(PudvirezBreaker *breaker, uint64_t *list, size_t places, PudvirezPending *pending, PudvirezTurn turn, uint64_t now_ms, uint32_t capacity);
 
 /* Takes turns, each of eight numbers in the order of PudvirezTurn, until the wait ends, one is refused, or the limit or the turns are used

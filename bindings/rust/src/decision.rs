@@ -6,7 +6,7 @@ use core::time::Duration;
 pub enum Decision {
     /// The unit was granted and has been deducted. Also for a breaker without an inner limiter.
     Acquired,
-    /// Refused for now.
+    /// Refused this time.
     Retry {
         /// The wait until the same request can be granted.
         after: Duration,

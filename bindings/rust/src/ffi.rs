@@ -1,126 +1,127 @@
-//! `include/pudvirez.h` in Rust. What each function does stands there.
+//! `include/pudvirez.h` in Rust. What each function does stands there. A private module of this crate,
+//! and `ffi` of oracle/archive.
 //!
 //! Every pointer must be valid and aligned for the count that comes with it, and what is not const
 //! may overlap nothing else.
 
 /// The places of a storage: PUDVIREZ_PLACES.
-pub(crate) const PLACES: usize = 4096;
+pub const PLACES: usize = 4096;
 
 #[repr(C)]
 #[derive(Debug, Clone, Copy, Default, PartialEq, Eq)]
-pub(crate) struct Config {
-    pub(crate) kind: u8,
-    pub(crate) limit: u32,
-    pub(crate) ratio_bits: u64,
-    pub(crate) min_calls: u32,
-    pub(crate) period_ms: u64,
-    pub(crate) cooldown_ms: u64,
-    pub(crate) trials: u32,
-    pub(crate) required: u32,
+pub struct Config {
+    pub kind: u8,
+    pub limit: u32,
+    pub ratio_bits: u64,
+    pub min_calls: u32,
+    pub period_ms: u64,
+    pub cooldown_ms: u64,
+    pub trials: u32,
+    pub required: u32,
 }
 
 #[repr(C)]
 #[derive(Debug, Clone, Copy, Default, PartialEq, Eq)]
-pub(crate) struct Shared {
-    pub(crate) state: u8,
-    pub(crate) generation: u64,
-    pub(crate) run: u32,
-    pub(crate) inflight: u32,
-    pub(crate) trait_probes: u32,
-    pub(crate) successes: u32,
-    pub(crate) open_until: u64,
-    pub(crate) len: u32,
+pub struct Shared {
+    pub state: u8,
+    pub generation: u64,
+    pub run: u32,
+    pub inflight: u32,
+    pub trait_probes: u32,
+    pub successes: u32,
+    pub open_until: u64,
+    pub len: u32,
 }
 
 #[repr(C)]
 #[derive(Debug, Clone, Copy, Default, PartialEq, Eq)]
-pub(crate) struct Breaker {
-    pub(crate) config: Config,
-    pub(crate) shared: Shared,
+pub struct Breaker {
+    pub config: Config,
+    pub shared: Shared,
 }
 
 #[repr(C)]
 #[derive(Debug, Clone, Copy, Default, PartialEq, Eq)]
-pub(crate) struct Ticket {
-    pub(crate) generation: u64,
-    pub(crate) probe: bool,
+pub struct Ticket {
+    pub generation: u64,
+    pub probe: bool,
 }
 
 #[repr(C)]
 #[derive(Debug, Clone, Copy, Default, PartialEq, Eq)]
-pub(crate) struct Told {
-    pub(crate) number: u32,
-    pub(crate) v1: u64,
-    pub(crate) v2: u64,
+pub struct Told {
+    pub number: u32,
+    pub v1: u64,
+    pub v2: u64,
 }
 
 #[repr(C)]
 #[derive(Debug, Clone, Copy, Default, PartialEq)]
-pub(crate) struct Setting {
-    pub(crate) kind: u8,
-    pub(crate) limit: u32,
-    pub(crate) ratio: f64,
-    pub(crate) min_calls: u32,
-    pub(crate) period_secs: u64,
-    pub(crate) period_nanos: u32,
-    pub(crate) cooldown_secs: u64,
-    pub(crate) cooldown_nanos: u32,
-    pub(crate) trials: u32,
-    pub(crate) required: u32,
+pub struct Setting {
+    pub kind: u8,
+    pub limit: u32,
+    pub ratio: f64,
+    pub min_calls: u32,
+    pub period_secs: u64,
+    pub period_nanos: u32,
+    pub cooldown_secs: u64,
+    pub cooldown_nanos: u32,
+    pub trials: u32,
+    pub required: u32,
 }
 
 #[repr(C)]
 #[derive(Debug, Clone, Copy, Default, PartialEq, Eq)]
-pub(crate) struct Wait {
-    pub(crate) phase: u64,
-    pub(crate) limited: u64,
-    pub(crate) deadline: u64,
-    pub(crate) seen: u64,
-    pub(crate) due: u64,
-    pub(crate) zeros: u64,
+pub struct Wait {
+    pub phase: u64,
+    pub limited: u64,
+    pub deadline: u64,
+    pub seen: u64,
+    pub due: u64,
+    pub zeros: u64,
 }
 
 #[repr(C)]
 #[derive(Debug, Clone, Copy, Default, PartialEq, Eq)]
-pub(crate) struct Pending {
-    pub(crate) wait: Wait,
-    pub(crate) ticket: Ticket,
+pub struct Pending {
+    pub wait: Wait,
+    pub ticket: Ticket,
 }
 
 #[repr(C)]
 #[derive(Debug, Clone, Copy, Default, PartialEq, Eq)]
-pub(crate) struct Turn {
-    pub(crate) clock: u64,
-    pub(crate) epoch_before: u64,
-    pub(crate) epoch_after: u64,
-    pub(crate) kind: u64,
-    pub(crate) duration: u64,
-    pub(crate) pause: u64,
-    pub(crate) postponed_before: u64,
-    pub(crate) postponed_after: u64,
+pub struct Turn {
+    pub clock: u64,
+    pub epoch_before: u64,
+    pub epoch_after: u64,
+    pub kind: u64,
+    pub duration: u64,
+    pub pause: u64,
+    pub postponed_before: u64,
+    pub postponed_after: u64,
 }
 
 #[repr(C)]
 #[derive(Debug, Clone, Copy, Default, PartialEq, Eq)]
-pub(crate) struct Waited {
-    pub(crate) number: u32,
-    pub(crate) v1: u64,
-    pub(crate) v2: u64,
-    pub(crate) v3: u64,
-    pub(crate) taken: u64,
+pub struct Waited {
+    pub number: u32,
+    pub v1: u64,
+    pub v2: u64,
+    pub v3: u64,
+    pub taken: u64,
 }
 
-// The whole header; the safe types call a part of it, the tests the rest.
+// The whole header; the safe types call a part of it, the tests and the oracle the rest.
 #[allow(dead_code)]
-extern "C" {
-    pub(crate) fn pudvirez_build(
+unsafe extern "C" {
+    pub fn pudvirez_build(
         breaker: *mut Breaker,
         list: *mut u64,
         places: usize,
         setting: Setting,
     ) -> Told;
 
-    pub(crate) fn pudvirez_admit_as(
+    pub fn pudvirez_admit_as(
         breaker: *mut Breaker,
         list: *mut u64,
         places: usize,
@@ -128,7 +129,7 @@ extern "C" {
         via_trait: bool,
     ) -> Told;
 
-    pub(crate) fn pudvirez_settle(
+    pub fn pudvirez_settle(
         breaker: *mut Breaker,
         list: *mut u64,
         places: usize,
@@ -137,7 +138,7 @@ extern "C" {
         success: bool,
     ) -> Told;
 
-    pub(crate) fn pudvirez_abort_as(
+    pub fn pudvirez_abort_as(
         breaker: *mut Breaker,
         list: *mut u64,
         places: usize,
@@ -145,7 +146,7 @@ extern "C" {
         via_trait: bool,
     ) -> Told;
 
-    pub(crate) fn pudvirez_permit_success(
+    pub fn pudvirez_permit_success(
         breaker: *mut Breaker,
         list: *mut u64,
         places: usize,
@@ -153,7 +154,7 @@ extern "C" {
         ticket: Ticket,
     ) -> Told;
 
-    pub(crate) fn pudvirez_permit_failure(
+    pub fn pudvirez_permit_failure(
         breaker: *mut Breaker,
         list: *mut u64,
         places: usize,
@@ -161,7 +162,7 @@ extern "C" {
         ticket: Ticket,
     ) -> Told;
 
-    pub(crate) fn pudvirez_permit_dropped(
+    pub fn pudvirez_permit_dropped(
         breaker: *mut Breaker,
         list: *mut u64,
         places: usize,
@@ -169,16 +170,16 @@ extern "C" {
         ticket: Ticket,
     ) -> Told;
 
-    pub(crate) fn pudvirez_permit_cancel(
+    pub fn pudvirez_permit_cancel(
         breaker: *mut Breaker,
         list: *mut u64,
         places: usize,
         ticket: Ticket,
     ) -> Told;
 
-    pub(crate) fn pudvirez_reset(breaker: *mut Breaker, list: *mut u64, places: usize) -> Told;
+    pub fn pudvirez_reset(breaker: *mut Breaker, list: *mut u64, places: usize) -> Told;
 
-    pub(crate) fn pudvirez_record_manual(
+    pub fn pudvirez_record_manual(
         breaker: *mut Breaker,
         list: *mut u64,
         places: usize,
@@ -186,13 +187,13 @@ extern "C" {
         success: bool,
     ) -> Told;
 
-    pub(crate) fn pudvirez_release_trait_probe(
+    pub fn pudvirez_release_trait_probe(
         breaker: *mut Breaker,
         list: *mut u64,
         places: usize,
     ) -> Told;
 
-    pub(crate) fn pudvirez_try_admit(
+    pub fn pudvirez_try_admit(
         breaker: *mut Breaker,
         list: *mut u64,
         places: usize,
@@ -202,7 +203,7 @@ extern "C" {
         capacity: u32,
     ) -> Told;
 
-    pub(crate) fn pudvirez_acquire_cost(
+    pub fn pudvirez_acquire_cost(
         breaker: *mut Breaker,
         list: *mut u64,
         places: usize,
@@ -211,7 +212,7 @@ extern "C" {
         inner_ms: u64,
     ) -> Told;
 
-    pub(crate) fn pudvirez_reserve(
+    pub fn pudvirez_reserve(
         breaker: *mut Breaker,
         list: *mut u64,
         places: usize,
@@ -220,14 +221,14 @@ extern "C" {
         inner_ms: u64,
     ) -> Told;
 
-    pub(crate) fn pudvirez_refund(
+    pub fn pudvirez_refund(
         breaker: *mut Breaker,
         list: *mut u64,
         places: usize,
-        cost: u32,
+        cost: u32, // told again in v1
     ) -> Told;
 
-    pub(crate) fn pudvirez_finish_all(
+    pub fn pudvirez_finish_all(
         breaker: *mut Breaker,
         list: *mut u64,
         places: usize,
@@ -244,7 +245,7 @@ extern "C" {
         answer_count: usize,
     ) -> Told;
 
-    pub(crate) fn pudvirez_wait_start(
+    pub fn pudvirez_wait_start(
         breaker: *mut Breaker,
         list: *mut u64,
         places: usize,
@@ -255,7 +256,7 @@ extern "C" {
         timeout: u64,
     ) -> Waited;
 
-    pub(crate) fn pudvirez_wait_turn(
+    pub fn pudvirez_wait_turn(
         breaker: *mut Breaker,
         list: *mut u64,
         places: usize,
@@ -265,7 +266,7 @@ extern "C" {
         capacity: u32,
     ) -> Waited;
 
-    pub(crate) fn pudvirez_wait_run(
+    pub fn pudvirez_wait_run(
         breaker: *mut Breaker,
         list: *mut u64,
         places: usize,
@@ -277,14 +278,14 @@ extern "C" {
         capacity: u32,
     ) -> Waited;
 
-    pub(crate) fn pudvirez_wait_drop(
+    pub fn pudvirez_wait_drop(
         breaker: *mut Breaker,
         list: *mut u64,
         places: usize,
         pending: *mut Pending,
     ) -> Waited;
 
-    pub(crate) fn pudvirez_still_admits(
+    pub fn pudvirez_still_admits(
         breaker: *const Breaker,
         list: *const u64,
         places: usize,
@@ -292,7 +293,7 @@ extern "C" {
         ticket: Ticket,
     ) -> Told;
 
-    pub(crate) fn pudvirez_peek(
+    pub fn pudvirez_peek(
         breaker: *const Breaker,
         list: *const u64,
         places: usize,
@@ -301,7 +302,7 @@ extern "C" {
         inner_ms: u64,
     ) -> Told;
 
-    pub(crate) fn pudvirez_available(
+    pub fn pudvirez_available(
         breaker: *const Breaker,
         list: *const u64,
         places: usize,
@@ -311,11 +312,7 @@ extern "C" {
         count: u32,
     ) -> Told;
 
-    pub(crate) fn pudvirez_board(breaker: *const Breaker, list: *const u64, places: usize) -> Told;
+    pub fn pudvirez_board(breaker: *const Breaker, list: *const u64, places: usize) -> Told;
 
-    pub(crate) fn pudvirez_is_sound(
-        breaker: *const Breaker,
-        list: *const u64,
-        places: usize,
-    ) -> bool;
+    pub fn pudvirez_is_sound(breaker: *const Breaker, list: *const u64, places: usize) -> bool;
 }

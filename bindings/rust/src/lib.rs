@@ -1,17 +1,17 @@
 //! A circuit breaker whose every step is proved: safe types over the C interface of Pudvirez, with the
-//! words of throttle-net.
+//! words of throttle-net. The types themselves are tested, not proved.
 //!
 //! A [`CircuitBreaker`] stands before a service. It counts failures, opens when its [`Trip`] condition
 //! is met, sheds calls while it is open, and lets a few trials through before it closes again.
 //!
-//! **Settle permits; a manual outcome has no ticket.** Settling a [`Permit`] is exact: its ticket says
-//! which spell of the breaker it belongs to, so a late answer does no harm.
-//! [`record_failure`](CircuitBreaker::record_failure) carries no ticket, and in half-open opens the
-//! breaker whatever spell the answer belonged to.
+//! **Settle permits; a manual outcome has no ticket.** A spell is the time between two transitions of the
+//! breaker. Settling a [`Permit`] is exact: its ticket says which spell it belongs to, so a late answer
+//! does no harm. [`record_failure`](CircuitBreaker::record_failure) carries no ticket, and in half-open
+//! opens the breaker whatever spell the answer belonged to.
 //!
 //! **Order.** From a half-open breaker, settling and cancelling the permits of its spell ends the same
-//! in every order exactly when none is a failure or the successes stay below the required number.
-//! Otherwise some order closes the breaker and another opens it.
+//! in every order exactly when none is a failure or the successes, with the earlier ones, stay below the
+//! required number. Otherwise some order closes the breaker and another opens it.
 //!
 //! The clock, and the reply of an inner limiter, are handed in. See [`Clock`] and [`Decision`]; and
 //! [`Host`] for a call that waits, by [`acquire_waiting`](CircuitBreaker::acquire_waiting).

@@ -1,4 +1,4 @@
-//! A record and its places, owned together. All the unsafe code of the crate stands here.
+//! A record and its places, owned together. All the unsafe calls of the crate but the tests' stand here.
 //!
 //! The calls are safe: `record` is a record and `places` as many places as are told, both are borrowed
 //! for the length of the call only, a wait beside them too, and nothing else lies in them.

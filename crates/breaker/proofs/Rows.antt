@@ -14,19 +14,20 @@ use Rattle.breaker.specs.declared.Ticket.{Ticket}
 use Rattle.breaker.specs.declared.Delay.{Delay}
 use Rattle.breaker.specs.declared.Breaker.{Breaker}
 use Rattle.breaker.specs.declared.Decision.the-variants.{Retry, Impossible}
-use Rattle.breaker.specs.Record.{Settings, State, Closed, HalfOpen, Open, soundConfig, soundShared, sound}
+use Rattle.breaker.specs.Record.{Settings, State, Closed, HalfOpen, Open, settings, state, soundConfig, soundShared, sound}
 use Rattle.breaker.specs.Rules.{Outcome, outcome, failure, inClosed, act, finish, admit}
-use Rattle.breaker.specs.Calls.{after, onSound, admission, tryAdmit}
-use Rattle.breaker.proofs.Guard.{sound-storage, sound-refused}
+use Rattle.breaker.specs.Calls.{after, kept, onSound, admission, tryAdmit}
+use Rattle.breaker.proofs.Guard.{guarded-storage, guarded-unsound}
 
 -- 3: storage of 4,095 places; all is left
 pub row3 : (rule : Settings → State → Outcome) (b : Breaker) → onSound rule b (replicate 4095 0) ≡ after (refused Storage) b (replicate 4095 0)
-row3 rule b = sym (sound-storage rule b (replicate 4095 0) (λ e. omega (arith, length-replicate {A = ℕ} 4095 0)))
+unfolding onSound
+row3 rule b = sym (guarded-storage (λ r. after (refused r) b (replicate 4095 0)) (kept (b .config) (rule (settings (b .config)) (state b (replicate 4095 0)))) b (replicate 4095 0) (λ e. omega (arith, length-replicate {A = ℕ} 4095 0)))
 
 -- 4: state code 3; all is left
 pub row4 : (rule : Settings → State → Outcome) (b : Breaker) (s : List ℕ) → length s ≡ 4096 → b .shared .state ≡ 3 → onSound rule b s ≡ after (refused Unsound) b s
-unfolding sound soundShared
-row4 rule b s p k = sym (sound-refused rule b s p (rw k (never (soundConfig (b .config)))))
+unfolding sound soundShared onSound
+row4 rule b s p k = sym (guarded-unsound (λ r. after (refused r) b s) _ b s p (rw k (never (soundConfig (b .config)))))
   where
     never : (x : Bool) → (x && false) ≡ false
     never true = refl

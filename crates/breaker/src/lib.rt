@@ -2,6 +2,7 @@
 // The rules stand in specs/, and what holds of them, demand 3 too, in proofs/. The calls are in circuit.
 ghost use mathlib.Core.Path.{_≡_};
 ghost use Rattle.breaker.specs.Record.{sound};
+ghost use Rattle.breaker.specs.Calls.{guarded};
 
 mod sound;
 
@@ -103,7 +104,13 @@ pub enum Counted {
     Refused(Refusal),
 }
 
-// The answer of a call that finishes or forces, and the record after it.
+// What the tests before a call come to.
+pub enum Tested {
+    Sound,
+    Refused(Refusal),
+}
+
+// The answer of a call that tells no more than a refusal, and the record after it.
 pub struct Settled {
     pub answer: Finished,
     pub breaker: Breaker,
@@ -154,4 +161,18 @@ pub fn is_sound(breaker: Breaker, list: &[u64]) -> bool
         return false;
     }
     history::sound_list(list, h.len, items_of(c))
+}
+
+// The tests before every call but a build: 3, then 4.
+// Ruled out: soundness tested before the storage; a refusal of a sound breaker.
+pub fn test(breaker: Breaker, list: &[u64]) -> Tested
+    ensures { λ r. ⌜ r ≡ guarded Tested.Refused Tested.Sound breaker (now (list .entry)) ⌝ }
+{
+    if list.len() != 4096 {
+        return Tested::Refused(Refusal::Storage);
+    }
+    if !is_sound(breaker, list) {
+        return Tested::Refused(Refusal::Unsound);
+    }
+    Tested::Sound
 }

@@ -8,21 +8,22 @@ use native.Mathlib.Omega.{arith}
 use lib.Dec.{eqb}
 use lib.ListN.{length, drop, set, getD, length-append, drop-of-length-le}
 use lib.Seq.{drop-cons, append-snoc, set-at}
-use borrow.Author.Tests.{eq-eqb, ne-eqb}
 use Rattle.error.specs.Choice.{if_then_else_}
 use Rattle.error.specs.Told.{Told, refused}
-use Rattle.error.specs.declared.Refusal.the-variants.{Storage, Unsound}
+use Rattle.error.specs.declared.Refusal.{Refusal}
+use Rattle.error.specs.declared.Refusal.the-variants.{Storage}
 use Rattle.history.specs.Items.{padded}
 use Rattle.trip.specs.declared.Config.{Config}
 use Rattle.breaker.specs.declared.Ticket.{Ticket}
 use Rattle.breaker.specs.declared.Breaker.{Breaker}
+use Rattle.breaker.specs.declared.Tested.the-variants.{Sound, Refused}
 use Rattle.breaker.specs.Record.{Settings, State, settings, state, stored, sound}
 use Rattle.breaker.specs.Rules.{Call, Outcome, done, finish, settling, aborting}
-use Rattle.breaker.specs.Calls.{After, after, kept}
+use Rattle.breaker.specs.Calls.{After, after, kept, guarded}
 use Rattle.breaker.specs.Orders.{Ran, run, inTurn, nothing}
 use Rattle.breaker.specs.Batch.{Slices, callBy, callAt, callsTo, calls, Batch, batch, numbers, alike, finishedAll}
 use Rattle.circuit.specs.Locked.{Holds}
-use Rattle.breaker.proofs.Record.{sound-places}
+use Rattle.breaker.proofs.Guard.{guarded-refused, guarded-done}
 use Rattle.breaker.proofs.Keeps.{SoundAt, sound-run, sound-state}
 use Rattle.breaker.proofs.Orders.{run-nil, run-snoc}
 use Rattle.circuit.proofs.Holding.{holds}
@@ -104,15 +105,11 @@ module _ (reading : ℕ) (x : Slices) (b : Breaker) (s answers : List ℕ) where
   unfolding finishedAll
   batch-unlike e = simp e
 
-  pub batch-storage : alike x answers ≡ true → (length s ≡ 4096 → ⊥) → batch (after (refused Storage) b s) answers ≡ finishedAll reading x b s answers
+  pub batch-refused : alike x answers ≡ true → (r : Refusal) → Refused r ≡ guarded Refused Sound b s → batch (after (refused r) b s) answers ≡ finishedAll reading x b s answers
   unfolding finishedAll
-  batch-storage e n = simp (e, ne-eqb (length s) 4096 n)
-
-  pub batch-refused : alike x answers ≡ true → length s ≡ 4096 → sound b s ≡ false → batch (after (refused Unsound) b s) answers ≡ finishedAll reading x b s answers
-  unfolding finishedAll
-  batch-refused e p k = simp (e, eq-eqb (length s) 4096 p, k)
+  batch-refused e r k = simp e (guarded-refused (λ r. batch (after (refused r) b s) answers) _ b s r k)
 
   pub batch-done : alike x answers ≡ true → sound b s ≡ true
       → (let ran = inTurn reading b s (calls x) in batch (kept (b .config) (done (ran .after))) (numbers (ran .answers))) ≡ finishedAll reading x b s answers
   unfolding finishedAll
-  batch-done e ok = simp (e, eq-eqb (length s) 4096 (sound-places b s ok), ok)
+  batch-done e ok = simp e (guarded-done (λ r. batch (after (refused r) b s) answers) _ b s ok)

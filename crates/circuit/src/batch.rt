@@ -15,8 +15,9 @@ use crate::outcome::settle_locked;
 use breaker::Breaker;
 use breaker::Finished;
 use breaker::Settled;
+use breaker::Tested;
 use breaker::Ticket;
-use breaker::is_sound;
+use breaker::test;
 use error::Refusal;
 
 fn number_of(answer: Finished) -> u64
@@ -122,29 +123,23 @@ pub fn finish_all(
             breaker,
         };
     }
-    if list.len() != 4096 {
-        return Settled {
-            answer: Finished::Refused(Refusal::Storage),
+    match test(breaker, list) {
+        Tested::Refused(r) => Settled {
+            answer: Finished::Refused(r),
             breaker,
-        };
-    }
-    if !is_sound(breaker, list) {
-        return Settled {
-            answer: Finished::Refused(Refusal::Unsound),
-            breaker,
-        };
-    }
-    Settled {
-        answer: Finished::Done,
-        breaker: finish_each(
-            breaker,
-            list,
-            now_ms,
-            generations,
-            probes,
-            settles,
-            marks,
-            answers,
-        ),
+        },
+        Tested::Sound => Settled {
+            answer: Finished::Done,
+            breaker: finish_each(
+                breaker,
+                list,
+                now_ms,
+                generations,
+                probes,
+                settles,
+                marks,
+                answers,
+            ),
+        },
     }
 }

@@ -22,10 +22,11 @@ use breaker::Finished;
 use breaker::Settled;
 use breaker::Shared;
 use breaker::Standing;
+use breaker::Tested;
 use breaker::Ticket;
 use breaker::Tried;
 use breaker::TriedAdmission;
-use breaker::is_sound;
+use breaker::test;
 use error::Refusal;
 use trip::Built;
 use trip::CircuitBreakerBuilder;
@@ -73,26 +74,20 @@ pub fn build(breaker: Breaker, list: &mut [u64], builder: CircuitBreakerBuilder)
 pub fn admit_as(breaker: Breaker, list: &mut [u64], now_ms: u64, via_trait: bool) -> Admitted
     ensures { λ r. ⌜ after (admissionTold (r .answer)) (r .breaker) (now (list .exit)) ≡ onSound (Calls.admission «via_trait» «now_ms») breaker (now (list .entry)) ⌝ }
 {
-    if list.len() != 4096 {
-        return Admitted {
-            answer: Admission::Refused(Refusal::Storage),
-            breaker,
-        };
-    }
-    if !is_sound(breaker, list) {
-        return Admitted {
-            answer: Admission::Refused(Refusal::Unsound),
-            breaker,
-        };
-    }
-    match admit_as_locked(breaker, now_ms, via_trait) {
-        Entry::Shed(d) => Admitted {
-            answer: Admission::Shed(d),
+    match test(breaker, list) {
+        Tested::Refused(r) => Admitted {
+            answer: Admission::Refused(r),
             breaker,
         },
-        Entry::Granted(t, next) => Admitted {
-            answer: Admission::Granted(t),
-            breaker: next,
+        Tested::Sound => match admit_as_locked(breaker, now_ms, via_trait) {
+            Entry::Shed(d) => Admitted {
+                answer: Admission::Shed(d),
+                breaker,
+            },
+            Entry::Granted(t, next) => Admitted {
+                answer: Admission::Granted(t),
+                breaker: next,
+            },
         },
     }
 }
@@ -108,35 +103,29 @@ pub fn try_admit(
 ) -> TriedAdmission
     ensures { λ r. ⌜ after (triedTold (r .answer)) (r .breaker) (now (list .exit)) ≡ onSound (Calls.tryAdmit inner capacity «now_ms») breaker (now (list .entry)) ⌝ }
 {
-    if list.len() != 4096 {
-        return TriedAdmission {
-            answer: Tried::Refused(Refusal::Storage),
-            breaker,
-        };
-    }
-    if !is_sound(breaker, list) {
-        return TriedAdmission {
-            answer: Tried::Refused(Refusal::Unsound),
-            breaker,
-        };
-    }
-    match admit_locked(breaker, now_ms) {
-        Entry::Shed(d) => TriedAdmission {
-            answer: Tried::Shed(d),
+    match test(breaker, list) {
+        Tested::Refused(r) => TriedAdmission {
+            answer: Tried::Refused(r),
             breaker,
         },
-        Entry::Granted(t, next) => match inner {
-            Decision::Acquired => TriedAdmission {
-                answer: Tried::Granted(t),
-                breaker: next,
+        Tested::Sound => match admit_locked(breaker, now_ms) {
+            Entry::Shed(d) => TriedAdmission {
+                answer: Tried::Shed(d),
+                breaker,
             },
-            Decision::Retry(_) => TriedAdmission {
-                answer: Tried::Retry,
-                breaker: abort_locked(next, t, false),
-            },
-            Decision::Impossible => TriedAdmission {
-                answer: Tried::Impossible { cost: 1, capacity },
-                breaker: abort_locked(next, t, false),
+            Entry::Granted(t, next) => match inner {
+                Decision::Acquired => TriedAdmission {
+                    answer: Tried::Granted(t),
+                    breaker: next,
+                },
+                Decision::Retry(_) => TriedAdmission {
+                    answer: Tried::Retry,
+                    breaker: abort_locked(next, t, false),
+                },
+                Decision::Impossible => TriedAdmission {
+                    answer: Tried::Impossible { cost: 1, capacity },
+                    breaker: abort_locked(next, t, false),
+                },
             },
         },
     }
@@ -147,23 +136,22 @@ pub fn try_admit(
 pub fn still_admits(breaker: Breaker, list: &[u64], now_ms: u64, ticket: Ticket) -> Standing
     ensures { λ r. ⌜ standingTold r ≡ asked (λ s st. Rules.stillAdmits «now_ms» ticket st) breaker (now (list .entry)) ⌝ }
 {
-    if list.len() != 4096 {
-        return Standing::Refused(Refusal::Storage);
+    match test(breaker, list) {
+        Tested::Refused(r) => Standing::Refused(r),
+        Tested::Sound => {
+            let h = breaker.shared;
+            if ticket.generation == h.generation {
+                return Standing::Admits;
+            }
+            if h.state == 0 {
+                return Standing::Admits;
+            }
+            if h.state == 2 {
+                return Standing::Shed(delayed(history::cutoff(h.open_until, now_ms)));
+            }
+            Standing::Shed(delayed(0))
+        }
     }
-    if !is_sound(breaker, list) {
-        return Standing::Refused(Refusal::Unsound);
-    }
-    let h = breaker.shared;
-    if ticket.generation == h.generation {
-        return Standing::Admits;
-    }
-    if h.state == 0 {
-        return Standing::Admits;
-    }
-    if h.state == 2 {
-        return Standing::Shed(delayed(history::cutoff(h.open_until, now_ms)));
-    }
-    Standing::Shed(delayed(0))
 }
 
 // Reports the outcome of a call with its ticket.
@@ -177,19 +165,13 @@ pub fn settle(
 ) -> Settled
     ensures { λ r. ⌜ after (finishedTold (r .answer)) (r .breaker) (now (list .exit)) ≡ onSound (Calls.settle «now_ms» ticket success) breaker (now (list .entry)) ⌝ }
 {
-    if list.len() != 4096 {
-        return Settled {
-            answer: Finished::Refused(Refusal::Storage),
+    match test(breaker, list) {
+        Tested::Refused(r) => Settled {
+            answer: Finished::Refused(r),
             breaker,
-        };
+        },
+        Tested::Sound => settle_locked(breaker, list, now_ms, ticket, success),
     }
-    if !is_sound(breaker, list) {
-        return Settled {
-            answer: Finished::Refused(Refusal::Unsound),
-            breaker,
-        };
-    }
-    settle_locked(breaker, list, now_ms, ticket, success)
 }
 
 // Gives an admission back without an outcome, through the trait side or not.
@@ -197,21 +179,15 @@ pub fn settle(
 pub fn abort_as(breaker: Breaker, list: &mut [u64], ticket: Ticket, via_trait: bool) -> Settled
     ensures { λ r. ⌜ after (finishedTold (r .answer)) (r .breaker) (now (list .exit)) ≡ onSound (Calls.abortAs ticket «via_trait») breaker (now (list .entry)) ⌝ }
 {
-    if list.len() != 4096 {
-        return Settled {
-            answer: Finished::Refused(Refusal::Storage),
+    match test(breaker, list) {
+        Tested::Refused(r) => Settled {
+            answer: Finished::Refused(r),
             breaker,
-        };
-    }
-    if !is_sound(breaker, list) {
-        return Settled {
-            answer: Finished::Refused(Refusal::Unsound),
-            breaker,
-        };
-    }
-    Settled {
-        answer: Finished::Done,
-        breaker: abort_locked(breaker, ticket, via_trait),
+        },
+        Tested::Sound => Settled {
+            answer: Finished::Done,
+            breaker: abort_locked(breaker, ticket, via_trait),
+        },
     }
 }
 
@@ -220,21 +196,15 @@ pub fn abort_as(breaker: Breaker, list: &mut [u64], ticket: Ticket, via_trait: b
 pub fn release_trait_probe(breaker: Breaker, list: &mut [u64]) -> Settled
     ensures { λ r. ⌜ after (finishedTold (r .answer)) (r .breaker) (now (list .exit)) ≡ onSound (λ s st. Rules.done (Rules.released st)) breaker (now (list .entry)) ⌝ }
 {
-    if list.len() != 4096 {
-        return Settled {
-            answer: Finished::Refused(Refusal::Storage),
+    match test(breaker, list) {
+        Tested::Refused(r) => Settled {
+            answer: Finished::Refused(r),
             breaker,
-        };
-    }
-    if !is_sound(breaker, list) {
-        return Settled {
-            answer: Finished::Refused(Refusal::Unsound),
-            breaker,
-        };
-    }
-    Settled {
-        answer: Finished::Done,
-        breaker: release_locked(breaker),
+        },
+        Tested::Sound => Settled {
+            answer: Finished::Done,
+            breaker: release_locked(breaker),
+        },
     }
 }
 
@@ -243,19 +213,13 @@ pub fn release_trait_probe(breaker: Breaker, list: &mut [u64]) -> Settled
 pub fn record_manual(breaker: Breaker, list: &mut [u64], now_ms: u64, success: bool) -> Settled
     ensures { λ r. ⌜ after (finishedTold (r .answer)) (r .breaker) (now (list .exit)) ≡ onSound (λ s st. Rules.manual s «now_ms» success st) breaker (now (list .entry)) ⌝ }
 {
-    if list.len() != 4096 {
-        return Settled {
-            answer: Finished::Refused(Refusal::Storage),
+    match test(breaker, list) {
+        Tested::Refused(r) => Settled {
+            answer: Finished::Refused(r),
             breaker,
-        };
+        },
+        Tested::Sound => manual_locked(breaker, list, now_ms, success),
     }
-    if !is_sound(breaker, list) {
-        return Settled {
-            answer: Finished::Refused(Refusal::Unsound),
-            breaker,
-        };
-    }
-    manual_locked(breaker, list, now_ms, success)
 }
 
 // Forces the breaker Closed and empties its history.
@@ -263,21 +227,15 @@ pub fn record_manual(breaker: Breaker, list: &mut [u64], now_ms: u64, success: b
 pub fn reset(breaker: Breaker, list: &mut [u64]) -> Settled
     ensures { λ r. ⌜ after (finishedTold (r .answer)) (r .breaker) (now (list .exit)) ≡ onSound (λ s st. Rules.reset st) breaker (now (list .entry)) ⌝ }
 {
-    if list.len() != 4096 {
-        return Settled {
-            answer: Finished::Refused(Refusal::Storage),
+    match test(breaker, list) {
+        Tested::Refused(r) => Settled {
+            answer: Finished::Refused(r),
             breaker,
-        };
-    }
-    if !is_sound(breaker, list) {
-        return Settled {
-            answer: Finished::Refused(Refusal::Unsound),
-            breaker,
-        };
-    }
-    Settled {
-        answer: Finished::Done,
-        breaker: close(breaker, list),
+        },
+        Tested::Sound => Settled {
+            answer: Finished::Done,
+            breaker: close(breaker, list),
+        },
     }
 }
 
@@ -286,17 +244,16 @@ pub fn reset(breaker: Breaker, list: &mut [u64]) -> Settled
 pub fn board(breaker: Breaker, list: &[u64]) -> Counted
     ensures { λ r. ⌜ countedTold r ≡ asked (Calls.board) breaker (now (list .entry)) ⌝ }
 {
-    if list.len() != 4096 {
-        return Counted::Refused(Refusal::Storage);
+    match test(breaker, list) {
+        Tested::Refused(r) => Counted::Refused(r),
+        Tested::Sound => {
+            let c = breaker.config;
+            let h = breaker.shared;
+            if c.kind != 2 {
+                return Counted::Count(0);
+            }
+            let failed = history::count_failures(list, h.len) as u32;
+            Counted::Count(trip::board_figure(2, failed, h.len))
+        }
     }
-    if !is_sound(breaker, list) {
-        return Counted::Refused(Refusal::Unsound);
-    }
-    let c = breaker.config;
-    let h = breaker.shared;
-    if c.kind != 2 {
-        return Counted::Count(0);
-    }
-    let failed = history::count_failures(list, h.len) as u32;
-    Counted::Count(trip::board_figure(2, failed, h.len))
 }

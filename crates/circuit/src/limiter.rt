@@ -18,23 +18,20 @@ use breaker::Noticed;
 use breaker::Reservation;
 use breaker::Reserved;
 use breaker::Reserving;
-use breaker::is_sound;
-use error::Refusal;
+use breaker::Tested;
+use breaker::test;
 
 // The verdict without a transition, else the inner limiter's peek.
 // Ruled out: an Open breaker past its cooldown that still refuses; inflight that moves.
 pub fn peek(breaker: Breaker, list: &[u64], now_ms: u64, inner: Decision) -> Decided
     ensures { λ r. ⌜ decidedTold r ≡ asked (Calls.peek inner «now_ms») breaker (now (list .entry)) ⌝ }
 {
-    if list.len() != 4096 {
-        return Decided::Refused(Refusal::Storage);
-    }
-    if !is_sound(breaker, list) {
-        return Decided::Refused(Refusal::Unsound);
-    }
-    match admit_locked(breaker, now_ms) {
-        Entry::Shed(d) => Decided::Is(Decision::Retry(d)),
-        Entry::Granted(_, _) => Decided::Is(inner),
+    match test(breaker, list) {
+        Tested::Refused(r) => Decided::Refused(r),
+        Tested::Sound => match admit_locked(breaker, now_ms) {
+            Entry::Shed(d) => Decided::Is(Decision::Retry(d)),
+            Entry::Granted(_, _) => Decided::Is(inner),
+        },
     }
 }
 
@@ -43,35 +40,29 @@ pub fn peek(breaker: Breaker, list: &[u64], now_ms: u64, inner: Decision) -> Dec
 pub fn acquire_cost(breaker: Breaker, list: &mut [u64], now_ms: u64, inner: Decision) -> Acquisition
     ensures { λ r. ⌜ after (decidedTold (r .answer)) (r .breaker) (now (list .exit)) ≡ onSound (Calls.acquireCost inner «now_ms») breaker (now (list .entry)) ⌝ }
 {
-    if list.len() != 4096 {
-        return Acquisition {
-            answer: Decided::Refused(Refusal::Storage),
-            breaker,
-        };
-    }
-    if !is_sound(breaker, list) {
-        return Acquisition {
-            answer: Decided::Refused(Refusal::Unsound),
-            breaker,
-        };
-    }
-    match admit_as_locked(breaker, now_ms, true) {
-        Entry::Shed(d) => Acquisition {
-            answer: Decided::Is(Decision::Retry(d)),
+    match test(breaker, list) {
+        Tested::Refused(r) => Acquisition {
+            answer: Decided::Refused(r),
             breaker,
         },
-        Entry::Granted(t, next) => match inner {
-            Decision::Acquired => Acquisition {
-                answer: Decided::Is(inner),
-                breaker: next,
+        Tested::Sound => match admit_as_locked(breaker, now_ms, true) {
+            Entry::Shed(d) => Acquisition {
+                answer: Decided::Is(Decision::Retry(d)),
+                breaker,
             },
-            Decision::Retry(_) => Acquisition {
-                answer: Decided::Is(inner),
-                breaker: abort_locked(next, t, true),
-            },
-            Decision::Impossible => Acquisition {
-                answer: Decided::Is(inner),
-                breaker: abort_locked(next, t, true),
+            Entry::Granted(t, next) => match inner {
+                Decision::Acquired => Acquisition {
+                    answer: Decided::Is(inner),
+                    breaker: next,
+                },
+                Decision::Retry(_) => Acquisition {
+                    answer: Decided::Is(inner),
+                    breaker: abort_locked(next, t, true),
+                },
+                Decision::Impossible => Acquisition {
+                    answer: Decided::Is(inner),
+                    breaker: abort_locked(next, t, true),
+                },
             },
         },
     }
@@ -82,31 +73,25 @@ pub fn acquire_cost(breaker: Breaker, list: &mut [u64], now_ms: u64, inner: Deci
 pub fn reserve(breaker: Breaker, list: &mut [u64], now_ms: u64, inner: Reservation) -> Reserving
     ensures { λ r. ⌜ after (reservedTold (r .answer)) (r .breaker) (now (list .exit)) ≡ onSound (Calls.reserve inner «now_ms») breaker (now (list .entry)) ⌝ }
 {
-    if list.len() != 4096 {
-        return Reserving {
-            answer: Reserved::Refused(Refusal::Storage),
-            breaker,
-        };
-    }
-    if !is_sound(breaker, list) {
-        return Reserving {
-            answer: Reserved::Refused(Refusal::Unsound),
-            breaker,
-        };
-    }
-    match admit_as_locked(breaker, now_ms, true) {
-        Entry::Shed(_) => Reserving {
-            answer: Reserved::Is(Reservation::Nothing),
+    match test(breaker, list) {
+        Tested::Refused(r) => Reserving {
+            answer: Reserved::Refused(r),
             breaker,
         },
-        Entry::Granted(t, next) => match inner {
-            Reservation::Wait(_) => Reserving {
-                answer: Reserved::Is(inner),
-                breaker: next,
+        Tested::Sound => match admit_as_locked(breaker, now_ms, true) {
+            Entry::Shed(_) => Reserving {
+                answer: Reserved::Is(Reservation::Nothing),
+                breaker,
             },
-            Reservation::Nothing => Reserving {
-                answer: Reserved::Is(inner),
-                breaker: abort_locked(next, t, true),
+            Entry::Granted(t, next) => match inner {
+                Reservation::Wait(_) => Reserving {
+                    answer: Reserved::Is(inner),
+                    breaker: next,
+                },
+                Reservation::Nothing => Reserving {
+                    answer: Reserved::Is(inner),
+                    breaker: abort_locked(next, t, true),
+                },
             },
         },
     }
@@ -123,18 +108,15 @@ pub fn available(
 ) -> Counted
     ensures { λ r. ⌜ countedTold r ≡ asked (Calls.available inner count «now_ms») breaker (now (list .entry)) ⌝ }
 {
-    if list.len() != 4096 {
-        return Counted::Refused(Refusal::Storage);
-    }
-    if !is_sound(breaker, list) {
-        return Counted::Refused(Refusal::Unsound);
-    }
-    match admit_locked(breaker, now_ms) {
-        Entry::Shed(_) => Counted::Count(0),
-        Entry::Granted(_, _) => match inner {
-            Decision::Acquired => Counted::Count(count as u64),
-            Decision::Retry(_) => Counted::Count(0),
-            Decision::Impossible => Counted::Count(0),
+    match test(breaker, list) {
+        Tested::Refused(r) => Counted::Refused(r),
+        Tested::Sound => match admit_locked(breaker, now_ms) {
+            Entry::Shed(_) => Counted::Count(0),
+            Entry::Granted(_, _) => match inner {
+                Decision::Acquired => Counted::Count(count as u64),
+                Decision::Retry(_) => Counted::Count(0),
+                Decision::Impossible => Counted::Count(0),
+            },
         },
     }
 }
@@ -152,20 +134,14 @@ pub fn charge(inner: u32) -> u32
 pub fn refund(breaker: Breaker, list: &mut [u64], cost: u32) -> Noticed
     ensures { λ r. ⌜ after (noticeTold (r .answer)) (r .breaker) (now (list .exit)) ≡ onSound (Calls.refund cost) breaker (now (list .entry)) ⌝ }
 {
-    if list.len() != 4096 {
-        return Noticed {
-            answer: Notice::Refused(Refusal::Storage),
+    match test(breaker, list) {
+        Tested::Refused(r) => Noticed {
+            answer: Notice::Refused(r),
             breaker,
-        };
-    }
-    if !is_sound(breaker, list) {
-        return Noticed {
-            answer: Notice::Refused(Refusal::Unsound),
-            breaker,
-        };
-    }
-    Noticed {
-        answer: Notice::Refund(cost),
-        breaker: release_locked(breaker),
+        },
+        Tested::Sound => Noticed {
+            answer: Notice::Refund(cost),
+            breaker: release_locked(breaker),
+        },
     }
 }

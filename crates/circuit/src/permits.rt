@@ -7,13 +7,12 @@ ghost use Rattle.breaker.specs.Calls.{after, onSound};
 use crate::outcome::abort_locked;
 use crate::settle;
 use breaker::Breaker;
-use breaker::Finished;
 use breaker::Notice;
 use breaker::Noticed;
 use breaker::Settled;
+use breaker::Tested;
 use breaker::Ticket;
-use breaker::is_sound;
-use error::Refusal;
+use breaker::test;
 
 // Ruled out: a success counted as a failure; one that needs a probe.
 pub fn permit_success(breaker: Breaker, list: &mut [u64], now_ms: u64, ticket: Ticket) -> Settled
@@ -42,20 +41,14 @@ pub fn permit_dropped(breaker: Breaker, list: &mut [u64], now_ms: u64, ticket: T
 pub fn permit_cancel(breaker: Breaker, list: &mut [u64], ticket: Ticket) -> Noticed
     ensures { λ r. ⌜ after (noticeTold (r .answer)) (r .breaker) (now (list .exit)) ≡ onSound (Calls.cancel ticket) breaker (now (list .entry)) ⌝ }
 {
-    if list.len() != 4096 {
-        return Noticed {
-            answer: Notice::Refused(Refusal::Storage),
+    match test(breaker, list) {
+        Tested::Refused(r) => Noticed {
+            answer: Notice::Refused(r),
             breaker,
-        };
-    }
-    if !is_sound(breaker, list) {
-        return Noticed {
-            answer: Notice::Refused(Refusal::Unsound),
-            breaker,
-        };
-    }
-    Noticed {
-        answer: Notice::Refund(1),
-        breaker: abort_locked(breaker, ticket, false),
+        },
+        Tested::Sound => Noticed {
+            answer: Notice::Refund(1),
+            breaker: abort_locked(breaker, ticket, false),
+        },
     }
 }

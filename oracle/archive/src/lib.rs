@@ -5,6 +5,7 @@ mod calls;
 #[cfg(archive)]
 mod convert;
 #[cfg(archive)]
+#[path = "../../../bindings/rust/src/ffi.rs"]
 pub mod ffi;
 #[cfg(archive)]
 mod side;
@@ -12,6 +13,6 @@ mod side;
 #[cfg(archive)]
 pub use calls::{Handing, Named};
 #[cfg(archive)]
-pub use convert::{config, plain_told, plain_waited, setting, shared, state};
+pub use convert::{config, own, plain_told, plain_waited, setting, shared, state};
 #[cfg(archive)]
 pub use side::{ROOM, Side};

@@ -4,7 +4,8 @@ use throttle::plain::{self, Call, State};
 use throttle::scope::PLACES;
 
 use crate::task::{CALLS, Task};
-use archive::ffi::{self, Breaker, Ticket};
+use archive::ffi::{self, Breaker};
+use archive::own;
 
 /// A record and its storage.
 pub struct Ours {
@@ -90,13 +91,6 @@ impl Ours {
             s.len.into(),
         ];
         fields == state.numbers() && self.list[..state.items.len()] == state.items
-    }
-}
-
-fn own(ticket: plain::Ticket) -> Ticket {
-    Ticket {
-        generation: ticket.generation,
-        probe: ticket.probe,
     }
 }
 

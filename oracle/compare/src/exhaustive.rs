@@ -132,7 +132,7 @@ fn all_settings() -> Vec<Settings> {
     all
 }
 
-fn policies() -> [Trip; 7] {
+fn policies() -> [Trip; 8] {
     let ratio = |window, ratio, min_calls| Trip::Ratio {
         window,
         ratio,
@@ -147,6 +147,8 @@ fn policies() -> [Trip; 7] {
         Trip::Consecutive(2),
         ratio(2, 0.5, 2),
         ratio(3, 1.0 / 3.0, 1),
+        // The least window with a quotient that is rounded up: 0.2 is above a fifth.
+        ratio(5, 0.2, 5),
         windowed(1, 0),
         windowed(2, 1),
         windowed(2, 2),

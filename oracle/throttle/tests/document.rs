@@ -220,8 +220,8 @@ fn p11_orders_of_a_success_and_a_failure() {
 
 /// Fails at each reading, and gives the state and the list's length after it.
 fn fail_all(subject: &Subject, readings: impl IntoIterator<Item = u64>) -> (u8, usize) {
-    for now in readings {
-        subject.call(now, &settle(0, false, false));
+    for reading in readings {
+        subject.call(reading, &settle(0, false, false));
     }
     (subject.state().state, subject.state().items.len())
 }

@@ -1,4 +1,5 @@
-//! Demand 3 on the library: what every order of finishing calls does to a half-open breaker.
+//! The statement on finishing orders (`FinishingOrders` of crates/breaker/specs/Orders.antt), on the library:
+//! what every order of finishing calls does to a half-open breaker.
 //!
 //! On permits of its spell all orders end equal exactly when no call is a failure or the successes, with
 //! the earlier ones, stay below the required number. Otherwise some order ends Closed and another Open.
@@ -223,8 +224,8 @@ fn splits() -> Vec<(Vec<Finish>, Vec<Finish>)> {
     sequences.iter().flat_map(pair).collect()
 }
 
-/// All merges of two threads end equal where demand 3 says that all orders do, and each ends as an order
-/// of the calls by their rules: by the first failure, or by the success that is the required one.
+/// All merges of two threads end equal where the statement says that all orders do, and each ends as an
+/// order of the calls by their rules: by the first failure, or by the success that is the required one.
 #[test]
 fn all_interleavings_of_two_threads() {
     let clock = ManualClock::new(0);

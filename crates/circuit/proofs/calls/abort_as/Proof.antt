@@ -2,39 +2,41 @@
 use mathlib.Core.Path.{_≡_, refl, sym, ap, _∙_}
 use mathlib.Core.Bool.{true}
 use borrow.Author.Needs.{needs}
-use borrow.Author.Tests.{not-true, not-false}
 use Rattle.breaker.specs.Record.{state, sound}
 use Rattle.breaker.specs.Calls as Calls
 use Rattle.breaker.specs.Rules as Rules
 use Rattle.breaker.specs.Orders.{nothing}
-use Rattle.breaker.proofs.Guard.{sound-storage, sound-refused, sound-done, sound-fields}
+use Rattle.breaker.proofs.Guard.{tested-sound, sound-refused, sound-done, sound-fields}
 use Rattle.circuit.proofs.Holding.{holds}
 use Rattle.circuit.proofs.calls.abort_as.Statement.{statement}
 use Rattle.circuit.proofs.calls.abort_as.Tie as tie
 
-returns : tie.Need-returns
-returns c = sound-storage (Calls.abortAs (c .before .before .args .ticket) (c .before .before .args .via-trait)) (c .before .before .args .breaker) (c .before .before .args .list .now) (c .if1 .taken)
+tested : (c : tie.After-enum-told) → sound (c .before .before .before .before .before .args .breaker) (c .before .before .before .before .before .args .list .now) ≡ true
+tested c = tested-sound (c .before .before .before .before .before .args .breaker) (c .before .before .before .before .before .args .list .now) (sym (c .enum-told .given .1) ∙ c .before .before .test .ensures)
 
-is-sound-requires : tie.Need-is-sound-requires
-is-sound-requires c κs = search needs
+test-requires : tie.Need-test-requires
+test-requires c κs = search needs
 
-same-length : tie.Need-same-length
-same-length c = search needs
+enum-known-r : tie.Need-enum-known-r
+enum-known-r c = search needs
 
-returns-2 : tie.Need-returns-2
-returns-2 c = sound-refused (Calls.abortAs (c .before .before .before .before .before .args .ticket) (c .before .before .before .before .before .args .via-trait)) (c .before .before .before .before .before .args .breaker) (c .before .before .before .before .before .args .list .now) (c .before .before .before .if1 .left) (sym (c .before .is-sound .ensures) ∙ not-true (c .before .is-sound .result) (c .if2 .taken))
+enum-told : tie.Need-enum-told
+enum-told c = search needs
 
 abort-locked-requires : tie.Need-abort-locked-requires
 abort-locked-requires c κs = search needs
 
+same-length : tie.Need-same-length
+same-length c = search needs
+
+returns : tie.Need-returns
+returns c = sound-refused (Calls.abortAs (c .before .before .before .before .before .before .args .ticket) (c .before .before .before .before .before .before .args .via-trait)) (c .before .before .before .before .before .before .args .breaker) (c .before .before .before .before .before .before .args .list .now) (c .before .r .given .0 .0) (sym (c .before .r .given .1) ∙ c .before .before .before .test .ensures)
+
 same-length-2 : tie.Need-same-length-2
 same-length-2 c = search needs
 
-tested : (c : tie.Else2) → sound (c .before .before .before .before .before .args .breaker) (c .before .before .before .before .before .args .list .now) ≡ true
-tested c = sym (c .before .is-sound .ensures) ∙ not-false (c .before .is-sound .result) (c .if2 .left)
-
-returns-3 : tie.Need-returns-3
-returns-3 c =
+returns-2 : tie.Need-returns-2
+returns-2 c =
     ap (Calls.after nothing (c .abort-locked .result)) (holds (c .before .before .before .before .before .before .args .breaker) (c .before .before .before .before .before .before .args .list .now) (tested (c .before)) .1)
     ∙ sym (c .abort-locked .ensures (c .before .before .before .before .before .before .args .breaker .config) (state (c .before .before .before .before .before .before .args .breaker) (c .before .before .before .before .before .before .args .list .now)) 0 (holds (c .before .before .before .before .before .before .args .breaker) (c .before .before .before .before .before .before .args .list .now) (tested (c .before)) .0))
     ∙ sound-done (Calls.abortAs (c .before .before .before .before .before .before .args .ticket) (c .before .before .before .before .before .before .args .via-trait)) (c .before .before .before .before .before .before .args .breaker) (c .before .before .before .before .before .before .args .list .now) (tested (c .before))
@@ -43,10 +45,11 @@ pub abort-as-spec : {M : Type 1} → statement M
 abort-as-spec =
     tie.close
     (tie.spec
-    returns
-    is-sound-requires
-    same-length
-    returns-2
+    test-requires
+    enum-known-r
+    enum-told
     abort-locked-requires
+    same-length
+    returns
     same-length-2
-    returns-3)
+    returns-2)
