@@ -8,5 +8,6 @@ pub mod Orders
 pub mod Corollaries
 pub mod Examples
 pub mod Guard
+pub mod Queries
 pub mod OneToOne
 pub mod Rows

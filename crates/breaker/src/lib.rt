@@ -1,11 +1,15 @@
 // The breaker record, its tickets and replies, and the answers of its calls, by value (circuit.rs of the Rust).
-// The rules stand in specs/, and what holds of them, demand 3 too, in proofs/. The calls are in circuit.
+// The rules and the statement on finishing orders stand in specs/, what is proved of them in proofs/.
 ghost use mathlib.Core.Path.{_≡_};
 ghost use Rattle.breaker.specs.Record.{sound};
 ghost use Rattle.breaker.specs.Calls.{guarded};
 
+mod calls;
 mod sound;
 
+pub use calls::build;
+pub use calls::delayed;
+pub use calls::still_admits;
 use error::Refusal;
 use sound::items_of;
 use sound::sound_policy;

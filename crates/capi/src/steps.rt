@@ -47,7 +47,7 @@ pub fn build_step(breaker: Breaker, list: &mut [u64], setting: Setting) -> Step
         };
     }
     let builder = builder_by(setting);
-    let s = circuit::build(breaker, list, builder);
+    let s = breaker::build(breaker, list, builder);
     let answer = s.answer;
     let next = s.breaker;
     Step {
@@ -60,7 +60,7 @@ pub fn build_step(breaker: Breaker, list: &mut [u64], setting: Setting) -> Step
 pub fn admit_as_step(breaker: Breaker, list: &mut [u64], now_ms: u64, via_trait: bool) -> Step
     ensures { λ r. ⌜ crossing (r .answer) (r .breaker) (now (list .exit)) ≡ crossed (onSound (Calls.admission «via_trait» «now_ms») breaker (now (list .entry))) ⌝ }
 {
-    let s = circuit::admit_as(breaker, list, now_ms, via_trait);
+    let s = admission::admit_as(breaker, list, now_ms, via_trait);
     let answer = s.answer;
     let next = s.breaker;
     Step {
@@ -210,7 +210,7 @@ pub fn try_admit_step(
         };
     }
     let inner = decision_by(inner_kind, inner_ms);
-    let s = circuit::try_admit(breaker, list, now_ms, inner, capacity);
+    let s = admission::try_admit(breaker, list, now_ms, inner, capacity);
     let answer = s.answer;
     let next = s.breaker;
     Step {
@@ -236,7 +236,7 @@ pub fn acquire_cost_step(
         };
     }
     let inner = decision_by(inner_kind, inner_ms);
-    let s = circuit::acquire_cost(breaker, list, now_ms, inner);
+    let s = admission::acquire_cost(breaker, list, now_ms, inner);
     let answer = s.answer;
     let next = s.breaker;
     Step {
@@ -262,7 +262,7 @@ pub fn reserve_step(
         };
     }
     let inner = reservation_by(inner_kind, inner_ms);
-    let s = circuit::reserve(breaker, list, now_ms, inner);
+    let s = admission::reserve(breaker, list, now_ms, inner);
     let answer = s.answer;
     let next = s.breaker;
     Step {
@@ -275,7 +275,7 @@ pub fn reserve_step(
 pub fn refund_step(breaker: Breaker, list: &mut [u64], cost: u32) -> Step
     ensures { λ r. ⌜ crossing (r .answer) (r .breaker) (now (list .exit)) ≡ crossed (onSound (Calls.refund cost) breaker (now (list .entry))) ⌝ }
 {
-    let s = circuit::refund(breaker, list, cost);
+    let s = admission::refund(breaker, list, cost);
     let answer = s.answer;
     let next = s.breaker;
     Step {
@@ -320,7 +320,7 @@ pub fn finish_all_step(
 pub fn still_admits_step(breaker: Breaker, list: &[u64], now_ms: u64, ticket: Ticket) -> Told
     ensures { λ r. ⌜ r ≡ packed (asked (λ s st. Rules.stillAdmits «now_ms» ticket st) breaker (now (list .entry))) ⌝ }
 {
-    tell_standing(circuit::still_admits(breaker, list, now_ms, ticket))
+    tell_standing(breaker::still_admits(breaker, list, now_ms, ticket))
 }
 
 // Ruled out: an unknown kind told 0; a retry told without its delay.
@@ -331,7 +331,7 @@ pub fn peek_step(breaker: Breaker, list: &[u64], now_ms: u64, inner_kind: u8, in
         return tell_unknown(breaker, list);
     }
     let inner = decision_by(inner_kind, inner_ms);
-    tell_decided(circuit::peek(breaker, list, now_ms, inner))
+    tell_decided(admission::peek(breaker, list, now_ms, inner))
 }
 
 // Ruled out: a count where the inner peek was refused; an unknown kind told a count of 0.
@@ -349,7 +349,7 @@ pub fn available_step(
         return tell_unknown(breaker, list);
     }
     let inner = decision_by(inner_kind, inner_ms);
-    tell_counted(circuit::available(breaker, list, now_ms, inner, count))
+    tell_counted(admission::available(breaker, list, now_ms, inner, count))
 }
 
 // Ruled out: a figure in a hundred; one that counts the good calls.

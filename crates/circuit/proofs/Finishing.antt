@@ -27,7 +27,8 @@ use Rattle.breaker.specs.Record.{Settings, State, HalfOpen, Closed, settings, s
 use Rattle.breaker.specs.Rules.{Outcome, done, counting, withCounts, opening, closing, inHalfOpen, act, finish, settling, aborting, released, success, failure, abort, traitAbort}
 use Rattle.breaker.specs.Calls.{After, after, kept}
 use Rattle.breaker.specs.Orders.{nothing}
-use Rattle.circuit.specs.Locked.{Holds, recording}
+use Rattle.steps.specs.Steps.{Holds}
+use Rattle.circuit.specs.Locked.{recording}
 use Rattle.breaker.proofs.Record.{sound→}
 use Rattle.breaker.proofs.Keeps.{SoundAt}
 

@@ -1,9 +1,6 @@
 -- Laws, by the steps of the code that use them.
-pub mod Holding
-pub mod Entering
 pub mod Finishing
 pub mod Outcomes
 pub mod Settling
-pub mod Admitting
-pub mod Queries
+pub mod Figures
 pub mod Sequences

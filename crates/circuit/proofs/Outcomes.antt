@@ -22,7 +22,8 @@ use Rattle.breaker.specs.Record.{State, settings, stored, sound}
 use Rattle.breaker.specs.Rules.{done, probes, withCounts, withHistory, opening, closing, recorded, noRoom, inHalfOpen, inClosed, settling}
 use Rattle.breaker.specs.Calls.{after, kept}
 use Rattle.breaker.specs.Orders.{nothing}
-use Rattle.circuit.specs.Locked.{Holds, recording}
+use Rattle.steps.specs.Steps.{Holds}
+use Rattle.circuit.specs.Locked.{recording}
 use Rattle.breaker.proofs.Keeps.{SoundAt, sound-history, sound-recorded}
 use Rattle.circuit.proofs.Finishing.{kept-done, at-state}
 

@@ -22,11 +22,11 @@ use Rattle.breaker.specs.Rules.{Call, Outcome, done, finish, settling, aborting
 use Rattle.breaker.specs.Calls.{After, after, kept, guarded}
 use Rattle.breaker.specs.Orders.{Ran, run, inTurn, nothing}
 use Rattle.breaker.specs.Batch.{Slices, callBy, callAt, callsTo, calls, Batch, batch, numbers, alike, finishedAll}
-use Rattle.circuit.specs.Locked.{Holds}
+use Rattle.steps.specs.Steps.{Holds}
 use Rattle.breaker.proofs.Guard.{guarded-refused, guarded-done}
 use Rattle.breaker.proofs.Keeps.{SoundAt, sound-run, sound-state}
 use Rattle.breaker.proofs.Orders.{run-nil, run-snoc}
-use Rattle.circuit.proofs.Holding.{holds}
+use Rattle.steps.proofs.Holding.{holds}
 
 -- ---- one call
 module _ (c : Config) (st : State) (reading : ℕ) (t : Ticket) (mark : Bool) (s : List ℕ) (b : Breaker) (h : Holds c st b s) where

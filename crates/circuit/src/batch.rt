@@ -3,14 +3,13 @@ ghost use mathlib.Core.Path.{_≡_};
 ghost use mathlib.Core.Bool.{true};
 ghost use lib.ListN.{length};
 ghost use Rattle.trip.specs.declared.Config.{Config};
-ghost use Rattle.breaker.specs.Record.{State, HalfOpen, settings, stored, sound};
+ghost use Rattle.breaker.specs.Record.{State, HalfOpen, settings, sound};
 ghost use Rattle.breaker.specs.Answers.{finishedTold};
 ghost use Rattle.breaker.specs.Rules.{finish, done};
 ghost use Rattle.breaker.specs.Calls.{after, kept};
 ghost use Rattle.breaker.specs.Orders.{FinishingOrders, inTurn};
 ghost use Rattle.breaker.specs.Batch.{batch, callBy, slices, calls, numbers, finishedAll};
-ghost use Rattle.circuit.specs.Locked.{Holds};
-use crate::outcome::abort_locked;
+ghost use Rattle.steps.specs.Steps.{Holds};
 use crate::outcome::settle_locked;
 use breaker::Breaker;
 use breaker::Finished;
@@ -19,6 +18,7 @@ use breaker::Tested;
 use breaker::Ticket;
 use breaker::test;
 use error::Refusal;
+use steps::abort_locked;
 
 fn number_of(answer: Finished) -> u64
     ensures { λ r. ⌜ r ≡ finishedTold answer .number ⌝ }

@@ -1,30 +1,38 @@
-// What an outcome, an abort or a release does, once the breaker is tested.
+// What an outcome does, once the breaker is tested.
 ghost use mathlib.Core.Path.{_≡_};
 ghost use mathlib.Core.Bool.{true, false};
-ghost use Prim.Native.Nat.{ℕ};
-ghost use Rattle.history.specs.Items.{padded};
 ghost use Rattle.history.specs.Change.{left, told};
 ghost use Rattle.trip.specs.declared.Config.{Config};
 ghost use Rattle.trip.specs.Policy.{policyOf, tripped};
 ghost use Rattle.breaker.specs.Record.{State, settings, stored, sound};
 ghost use Rattle.breaker.specs.Answers.{finishedTold};
-ghost use Rattle.breaker.specs.Rules.{done, inHalfOpen, inClosed, finish, settling, aborting, released, manual};
+ghost use Rattle.breaker.specs.Rules.{done, closing, inHalfOpen, inClosed, finish, settling, manual};
 ghost use Rattle.breaker.specs.Calls.{after, kept};
-ghost use Rattle.breaker.specs.Orders.{nothing};
-ghost use Rattle.circuit.specs.Locked.{Holds, recording};
-use crate::update::close;
-use crate::update::one_less;
-use crate::update::one_more;
-use crate::update::opened;
-use crate::update::with_counts;
-use crate::update::with_history;
+ghost use Rattle.steps.specs.Steps.{Holds};
+ghost use Rattle.circuit.specs.Locked.{recording};
 use breaker::Breaker;
 use breaker::Finished;
 use breaker::Settled;
 use breaker::Ticket;
 use history::Changed;
+use steps::one_less;
+use steps::one_more;
+use steps::opened;
+use steps::transition;
+use steps::with_counts;
+use steps::with_history;
 
-pub(crate) fn record_outcome(b: Breaker, list: &mut [u64], now_ms: u64, failed: bool) -> Changed
+// Closes the breaker and empties its list.
+pub(crate) fn close(b: Breaker, list: &mut [u64]) -> Breaker
+    requires { ⌜ sound b (now list) ≡ true ⌝ }
+    ensures { λ r. ⌜ ((c : Config) (st : State) → b ≡ stored c st → Holds c (closing st) r (now (list .exit))) ⌝ }
+{
+    let until = b.shared.open_until;
+    let _emptied = history::clear(list, b.shared.len);
+    transition(with_history(with_counts(b, 0, 0, 0), 0, 0), 0, until)
+}
+
+fn record_outcome(b: Breaker, list: &mut [u64], now_ms: u64, failed: bool) -> Changed
     requires { ⌜ sound b (now list) ≡ true ⌝ }
     ensures { λ r. ⌜ ((c : Config) (st : State) → Holds c st b (now (list .entry)) → left (told r) (now (list .exit)) ≡ recording failed (policyOf c) «now_ms» (st .list)) ⌝ }
 {
@@ -42,7 +50,7 @@ pub(crate) fn record_outcome(b: Breaker, list: &mut [u64], now_ms: u64, failed: 
     history::evict_times(list, len, now_ms, c.period_ms)
 }
 
-pub(crate) fn trips(b: Breaker, list: &[u64], now_ms: u64) -> bool
+fn trips(b: Breaker, list: &[u64], now_ms: u64) -> bool
     requires { ⌜ sound b (now list) ≡ true ⌝ }
     ensures { λ r. ⌜ ((c : Config) (st : State) → Holds c st b (now (list .entry)) → r ≡ tripped (policyOf c) «now_ms» (st .run) (st .list)) ⌝ }
 {
@@ -59,13 +67,7 @@ pub(crate) fn trips(b: Breaker, list: &[u64], now_ms: u64) -> bool
     trip::times_trip(recent, c.limit)
 }
 
-pub(crate) fn half_open_outcome(
-    b: Breaker,
-    list: &mut [u64],
-    now_ms: u64,
-    t: Ticket,
-    success: bool,
-) -> Settled
+fn half_open_outcome(b: Breaker, list: &mut [u64], now_ms: u64, t: Ticket, success: bool) -> Settled
     requires { ⌜ sound b (now list) ≡ true ⌝ }
     ensures { λ r. ⌜ ((c : Config) (st : State) → Holds c st b (now (list .entry)) → after (finishedTold (r .answer)) (r .breaker) (now (list .exit)) ≡ kept c (done (inHalfOpen (settings c) «now_ms» (settling t success) st))) ⌝ }
 {
@@ -95,7 +97,7 @@ pub(crate) fn half_open_outcome(
     }
 }
 
-pub(crate) fn closed_success(b: Breaker, list: &mut [u64], now_ms: u64, t: Ticket) -> Settled
+fn closed_success(b: Breaker, list: &mut [u64], now_ms: u64, t: Ticket) -> Settled
     requires { ⌜ sound b (now list) ≡ true ⌝ }
     ensures { λ r. ⌜ ((c : Config) (st : State) → Holds c st b (now (list .entry)) → after (finishedTold (r .answer)) (r .breaker) (now (list .exit)) ≡ kept c (inClosed (settings c) «now_ms» (settling t true) st)) ⌝ }
 {
@@ -111,7 +113,7 @@ pub(crate) fn closed_success(b: Breaker, list: &mut [u64], now_ms: u64, t: Ticke
     }
 }
 
-pub(crate) fn closed_failure(b: Breaker, list: &mut [u64], now_ms: u64, t: Ticket) -> Settled
+fn closed_failure(b: Breaker, list: &mut [u64], now_ms: u64, t: Ticket) -> Settled
     requires { ⌜ sound b (now list) ≡ true ⌝ }
     ensures { λ r. ⌜ ((c : Config) (st : State) → Holds c st b (now (list .entry)) → after (finishedTold (r .answer)) (r .breaker) (now (list .exit)) ≡ kept c (inClosed (settings c) «now_ms» (settling t false) st)) ⌝ }
 {
@@ -166,39 +168,6 @@ pub(crate) fn settle_locked(
         return closed_success(b, list, now_ms, t);
     }
     closed_failure(b, list, now_ms, t)
-}
-
-pub(crate) fn abort_locked(b: Breaker, t: Ticket, via_trait: bool) -> Breaker
-    ensures { λ r. ⌜ ((c : Config) (st : State) (reading : ℕ) → b ≡ stored c st → kept c (finish (settings c) reading (aborting t «via_trait») st) ≡ after nothing r (padded (st .list))) ⌝ }
-{
-    let h = b.shared;
-    if !t.probe {
-        return b;
-    }
-    if t.generation != h.generation {
-        return b;
-    }
-    if h.state != 1 {
-        return b;
-    }
-    let inflight = one_less(h.inflight);
-    if via_trait {
-        return with_counts(b, inflight, one_less(h.trait_probes), h.successes);
-    }
-    with_counts(b, inflight, h.trait_probes, h.successes)
-}
-
-pub(crate) fn release_locked(b: Breaker) -> Breaker
-    ensures { λ r. ⌜ ((c : Config) (st : State) → b ≡ stored c st → r ≡ stored c (released st)) ⌝ }
-{
-    let h = b.shared;
-    if h.state != 1 {
-        return b;
-    }
-    if h.trait_probes == 0 {
-        return b;
-    }
-    with_counts(b, one_less(h.inflight), h.trait_probes - 1, h.successes)
 }
 
 pub(crate) fn manual_locked(b: Breaker, list: &mut [u64], now_ms: u64, success: bool) -> Settled

@@ -1,10 +1,9 @@
-// Permits: a ticket with what its call came to. Each is the call that the Rust's Permit makes.
+// What the Rust's Permit does with its ticket: success, failure, drop, cancel.
 ghost use mathlib.Core.Path.{_≡_};
 ghost use mathlib.Core.Bool.{true, false};
 ghost use Rattle.breaker.specs.Answers.{finishedTold, noticeTold};
 ghost use Rattle.breaker.specs.Calls as Calls;
 ghost use Rattle.breaker.specs.Calls.{after, onSound};
-use crate::outcome::abort_locked;
 use crate::settle;
 use breaker::Breaker;
 use breaker::Notice;
@@ -13,6 +12,7 @@ use breaker::Settled;
 use breaker::Tested;
 use breaker::Ticket;
 use breaker::test;
+use steps::abort_locked;
 
 // Ruled out: a success counted as a failure; one that needs a probe.
 pub fn permit_success(breaker: Breaker, list: &mut [u64], now_ms: u64, ticket: Ticket) -> Settled

@@ -39,7 +39,7 @@ use waiting::Waited;
 pub fn build(breaker: &mut Breaker, list: &mut [u64], builder: CircuitBreakerBuilder) -> Finished
     ensures { λ r. ⌜ after (finishedTold r) (now (breaker .exit)) (now (list .exit)) ≡ Calls.built builder (now (breaker .entry)) (now (list .entry)) ⌝ }
 {
-    let s = circuit::build(*breaker, list, builder);
+    let s = breaker::build(*breaker, list, builder);
     *breaker = s.breaker;
     s.answer
 }
@@ -49,7 +49,7 @@ pub fn build(breaker: &mut Breaker, list: &mut [u64], builder: CircuitBreakerBui
 pub fn admit_as(breaker: &mut Breaker, list: &mut [u64], now_ms: u64, via_trait: bool) -> Admission
     ensures { λ r. ⌜ after (admissionTold r) (now (breaker .exit)) (now (list .exit)) ≡ onSound (Calls.admission «via_trait» «now_ms») (now (breaker .entry)) (now (list .entry)) ⌝ }
 {
-    let s = circuit::admit_as(*breaker, list, now_ms, via_trait);
+    let s = admission::admit_as(*breaker, list, now_ms, via_trait);
     *breaker = s.breaker;
     s.answer
 }
@@ -65,7 +65,7 @@ pub fn try_admit(
 ) -> Tried
     ensures { λ r. ⌜ after (triedTold r) (now (breaker .exit)) (now (list .exit)) ≡ onSound (Calls.tryAdmit inner capacity «now_ms») (now (breaker .entry)) (now (list .entry)) ⌝ }
 {
-    let s = circuit::try_admit(*breaker, list, now_ms, inner, capacity);
+    let s = admission::try_admit(*breaker, list, now_ms, inner, capacity);
     *breaker = s.breaker;
     s.answer
 }
@@ -201,7 +201,7 @@ pub fn acquire_cost(
 ) -> Decided
     ensures { λ r. ⌜ after (decidedTold r) (now (breaker .exit)) (now (list .exit)) ≡ onSound (Calls.acquireCost inner «now_ms») (now (breaker .entry)) (now (list .entry)) ⌝ }
 {
-    let s = circuit::acquire_cost(*breaker, list, now_ms, inner);
+    let s = admission::acquire_cost(*breaker, list, now_ms, inner);
     *breaker = s.breaker;
     s.answer
 }
@@ -211,7 +211,7 @@ pub fn acquire_cost(
 pub fn reserve(breaker: &mut Breaker, list: &mut [u64], now_ms: u64, inner: Reservation) -> Reserved
     ensures { λ r. ⌜ after (reservedTold r) (now (breaker .exit)) (now (list .exit)) ≡ onSound (Calls.reserve inner «now_ms») (now (breaker .entry)) (now (list .entry)) ⌝ }
 {
-    let s = circuit::reserve(*breaker, list, now_ms, inner);
+    let s = admission::reserve(*breaker, list, now_ms, inner);
     *breaker = s.breaker;
     s.answer
 }
@@ -221,7 +221,7 @@ pub fn reserve(breaker: &mut Breaker, list: &mut [u64], now_ms: u64, inner: Rese
 pub fn refund(breaker: &mut Breaker, list: &mut [u64], cost: u32) -> Notice
     ensures { λ r. ⌜ after (noticeTold r) (now (breaker .exit)) (now (list .exit)) ≡ onSound (Calls.refund cost) (now (breaker .entry)) (now (list .entry)) ⌝ }
 {
-    let s = circuit::refund(*breaker, list, cost);
+    let s = admission::refund(*breaker, list, cost);
     *breaker = s.breaker;
     s.answer
 }
@@ -340,7 +340,7 @@ pub fn is_sound(breaker: &Breaker, list: &[u64]) -> bool
 pub fn still_admits(breaker: &Breaker, list: &[u64], now_ms: u64, ticket: Ticket) -> Standing
     ensures { λ r. ⌜ standingTold r ≡ asked (λ s st. Rules.stillAdmits «now_ms» ticket st) (now (breaker .entry)) (now (list .entry)) ⌝ }
 {
-    circuit::still_admits(*breaker, list, now_ms, ticket)
+    breaker::still_admits(*breaker, list, now_ms, ticket)
 }
 
 // The board figure: failures in a thousand calls of the Ratio list.
@@ -356,7 +356,7 @@ pub fn board(breaker: &Breaker, list: &[u64]) -> Counted
 pub fn peek(breaker: &Breaker, list: &[u64], now_ms: u64, inner: Decision) -> Decided
     ensures { λ r. ⌜ decidedTold r ≡ asked (Calls.peek inner «now_ms») (now (breaker .entry)) (now (list .entry)) ⌝ }
 {
-    circuit::peek(*breaker, list, now_ms, inner)
+    admission::peek(*breaker, list, now_ms, inner)
 }
 
 // The inner limiter's count, if its peek of 0 was acquired and the breaker would admit.
@@ -370,5 +370,5 @@ pub fn available(
 ) -> Counted
     ensures { λ r. ⌜ countedTold r ≡ asked (Calls.available inner count «now_ms») (now (breaker .entry)) (now (list .entry)) ⌝ }
 {
-    circuit::available(*breaker, list, now_ms, inner, count)
+    admission::available(*breaker, list, now_ms, inner, count)
 }

@@ -65,7 +65,7 @@ pub(crate) fn replay_all(s: &[u8], more: bool, list: &mut [u64], out: &mut [u8])
     let ReadHeader::Heads(header, at) = read else {
         return write_malformed(out, 0, 1);
     };
-    let made = circuit::build(blank(), list, builder_of(header));
+    let made = breaker::build(blank(), list, builder_of(header));
     let answer = made.answer;
     let breaker = made.breaker;
     match answer {

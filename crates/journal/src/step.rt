@@ -89,7 +89,7 @@ pub(crate) fn step(breaker: Breaker, list: &mut [u64], call: Call) -> Stepped
     ensures { λ r. ⌜ StepsTo call breaker (now (list .entry)) r (now (list .exit)) ⌝ }
 {
     match call {
-        Call::Admit(reading) => admitted(circuit::admit_as(breaker, list, reading, false)),
+        Call::Admit(reading) => admitted(admission::admit_as(breaker, list, reading, false)),
         Call::Success(reading, generation, probe) => finished(circuit::settle(
             breaker,
             list,

@@ -88,7 +88,7 @@ pub(crate) fn takes(n: &Line) -> bool {
 }
 
 fn admit_as(b: Breaker, list: &mut [u64], n: &Line) -> Called {
-    let r = circuit::admit_as(b, list, n[2], n[3] != 0);
+    let r = admission::admit_as(b, list, n[2], n[3] != 0);
     let breaker = r.breaker;
     let a = r.answer;
     Called {
@@ -129,13 +129,13 @@ fn record_manual(b: Breaker, list: &mut [u64], n: &Line) -> Called {
 
 fn still_admits(b: Breaker, list: &[u64], n: &Line) -> Called {
     Called {
-        told: told::standing(circuit::still_admits(b, list, n[2], ticket(n))),
+        told: told::standing(breaker::still_admits(b, list, n[2], ticket(n))),
         breaker: b,
     }
 }
 
 fn try_admit(b: Breaker, list: &mut [u64], n: &Line) -> Called {
-    let r = circuit::try_admit(b, list, n[2], inner(n), narrow(n[5]));
+    let r = admission::try_admit(b, list, n[2], inner(n), narrow(n[5]));
     let breaker = r.breaker;
     let a = r.answer;
     Called {
@@ -161,13 +161,13 @@ fn permit(b: Breaker, list: &mut [u64], n: &Line) -> Called {
 
 fn peek(b: Breaker, list: &[u64], n: &Line) -> Called {
     Called {
-        told: told::decided(circuit::peek(b, list, n[2], inner(n))),
+        told: told::decided(admission::peek(b, list, n[2], inner(n))),
         breaker: b,
     }
 }
 
 fn acquire_cost(b: Breaker, list: &mut [u64], n: &Line) -> Called {
-    let r = circuit::acquire_cost(b, list, n[2], inner(n));
+    let r = admission::acquire_cost(b, list, n[2], inner(n));
     let breaker = r.breaker;
     let a = r.answer;
     Called {
@@ -177,7 +177,7 @@ fn acquire_cost(b: Breaker, list: &mut [u64], n: &Line) -> Called {
 }
 
 fn reserve(b: Breaker, list: &mut [u64], n: &Line) -> Called {
-    let r = circuit::reserve(b, list, n[2], inner_wait(n));
+    let r = admission::reserve(b, list, n[2], inner_wait(n));
     let breaker = r.breaker;
     let a = r.answer;
     Called {
@@ -188,14 +188,14 @@ fn reserve(b: Breaker, list: &mut [u64], n: &Line) -> Called {
 
 fn available(b: Breaker, list: &[u64], n: &Line) -> Called {
     Called {
-        told: told::counted(circuit::available(b, list, n[2], inner(n), narrow(n[5]))),
+        told: told::counted(admission::available(b, list, n[2], inner(n), narrow(n[5]))),
         breaker: b,
     }
 }
 
 fn charge(b: Breaker, n: &Line) -> Called {
     Called {
-        told: [0, circuit::charge(narrow(n[3])) as u64, 0, 0],
+        told: [0, admission::charge(narrow(n[3])) as u64, 0, 0],
         breaker: b,
     }
 }
@@ -218,6 +218,6 @@ pub(crate) fn call(b: Breaker, list: &mut [u64], n: &Line) -> Called {
         12 => reserve(b, list, n),
         13 => available(b, list, n),
         14 => charge(b, n),
-        _ => noticed(circuit::refund(b, list, narrow(n[5]))),
+        _ => noticed(admission::refund(b, list, narrow(n[5]))),
     }
 }

@@ -272,7 +272,7 @@ fn state(run: Run, list: &mut Places, want: &mut Places, n: &Line) -> Run {
 // Builds a breaker in the record and the storage that the last one left.
 fn build(run: Run, list: &mut Places, want: &mut Places, n: &Line) -> Run {
     let before = run.breaker;
-    let r = circuit::build(before, list, settings::builder(n));
+    let r = breaker::build(before, list, settings::builder(n));
     let breaker = r.breaker;
     let a = r.answer;
     pop(want, 4096);

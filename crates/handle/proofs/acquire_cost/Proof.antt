@@ -1,12 +1,12 @@
--- `handle::acquire_cost` is thin over `circuit::acquire_cost`. Assumes nothing.
+-- `handle::acquire_cost` is thin over `admission::acquire_cost`. Assumes nothing.
 use mathlib.Core.List.{[], _∷_}
 use base.Logic.{id⊢}
 use Rattle.thin.proofs.Types.{u64, val, mutSlice, mutRef}
 use Rattle.thin.proofs.Mut.{mut-spec}
 use Rattle.handle.proofs.Types.{acquisition, breaker, decided, decision}
-use Rattle.circuit.proofs.acquire_cost as g
-use Rattle.circuit.proofs.acquire_cost.Symbol as g-def
-use Rattle.circuit.proofs.acquire_cost.Met as g-thm
+use Rattle.admission.proofs.acquire_cost as g
+use Rattle.admission.proofs.acquire_cost.Symbol as g-def
+use Rattle.admission.proofs.acquire_cost.Met as g-thm
 use Rattle.handle.proofs.acquire_cost as f
 use Rattle.handle.proofs.acquire_cost.Key as key
 use Rattle.handle.proofs.acquire_cost.Statement as stated

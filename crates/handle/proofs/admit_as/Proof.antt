@@ -1,12 +1,12 @@
--- `handle::admit_as` is thin over `circuit::admit_as`. Assumes nothing.
+-- `handle::admit_as` is thin over `admission::admit_as`. Assumes nothing.
 use mathlib.Core.List.{[], _∷_}
 use base.Logic.{id⊢}
 use Rattle.thin.proofs.Types.{u64, bool, val, mutSlice, mutRef}
 use Rattle.thin.proofs.Mut.{mut-spec}
 use Rattle.handle.proofs.Types.{admission, admitted, breaker}
-use Rattle.circuit.proofs.admit_as as g
-use Rattle.circuit.proofs.admit_as.Symbol as g-def
-use Rattle.circuit.proofs.admit_as.Met as g-thm
+use Rattle.admission.proofs.admit_as as g
+use Rattle.admission.proofs.admit_as.Symbol as g-def
+use Rattle.admission.proofs.admit_as.Met as g-thm
 use Rattle.handle.proofs.admit_as as f
 use Rattle.handle.proofs.admit_as.Key as key
 use Rattle.handle.proofs.admit_as.Statement as stated

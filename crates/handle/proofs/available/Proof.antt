@@ -1,12 +1,12 @@
--- `handle::available` is thin over `circuit::available`. Assumes nothing.
+-- `handle::available` is thin over `admission::available`. Assumes nothing.
 use mathlib.Core.List.{[], _∷_}
 use base.Logic.{id⊢}
 use Rattle.thin.proofs.Types.{u32, u64, val, slice, ref}
 use Rattle.thin.proofs.Look.{look-spec}
 use Rattle.handle.proofs.Types.{breaker, counted, decision}
-use Rattle.circuit.proofs.available as g
-use Rattle.circuit.proofs.available.Symbol as g-def
-use Rattle.circuit.proofs.available.Met as g-thm
+use Rattle.admission.proofs.available as g
+use Rattle.admission.proofs.available.Symbol as g-def
+use Rattle.admission.proofs.available.Met as g-thm
 use Rattle.handle.proofs.available as f
 use Rattle.handle.proofs.available.Key as key
 use Rattle.handle.proofs.available.Statement as stated

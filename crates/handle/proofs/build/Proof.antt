@@ -1,12 +1,12 @@
--- `handle::build` is thin over `circuit::build`. Assumes nothing.
+-- `handle::build` is thin over `breaker::build`. Assumes nothing.
 use mathlib.Core.List.{[], _∷_}
 use base.Logic.{id⊢}
 use Rattle.thin.proofs.Types.{u64, val, mutSlice, mutRef}
 use Rattle.thin.proofs.Mut.{mut-spec}
 use Rattle.handle.proofs.Types.{breaker, builder, finished, settled}
-use Rattle.circuit.proofs.build as g
-use Rattle.circuit.proofs.build.Symbol as g-def
-use Rattle.circuit.proofs.build.Met as g-thm
+use Rattle.breaker.proofs.build as g
+use Rattle.breaker.proofs.build.Symbol as g-def
+use Rattle.breaker.proofs.build.Met as g-thm
 use Rattle.handle.proofs.build as f
 use Rattle.handle.proofs.build.Key as key
 use Rattle.handle.proofs.build.Statement as stated

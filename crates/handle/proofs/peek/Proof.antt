@@ -1,12 +1,12 @@
--- `handle::peek` is thin over `circuit::peek`. Assumes nothing.
+-- `handle::peek` is thin over `admission::peek`. Assumes nothing.
 use mathlib.Core.List.{[], _∷_}
 use base.Logic.{id⊢}
 use Rattle.thin.proofs.Types.{u64, val, slice, ref}
 use Rattle.thin.proofs.Look.{look-spec}
 use Rattle.handle.proofs.Types.{breaker, decided, decision}
-use Rattle.circuit.proofs.peek as g
-use Rattle.circuit.proofs.peek.Symbol as g-def
-use Rattle.circuit.proofs.peek.Met as g-thm
+use Rattle.admission.proofs.peek as g
+use Rattle.admission.proofs.peek.Symbol as g-def
+use Rattle.admission.proofs.peek.Met as g-thm
 use Rattle.handle.proofs.peek as f
 use Rattle.handle.proofs.peek.Key as key
 use Rattle.handle.proofs.peek.Statement as stated

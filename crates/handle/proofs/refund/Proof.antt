@@ -1,12 +1,12 @@
--- `handle::refund` is thin over `circuit::refund`. Assumes nothing.
+-- `handle::refund` is thin over `admission::refund`. Assumes nothing.
 use mathlib.Core.List.{[], _∷_}
 use base.Logic.{id⊢}
 use Rattle.thin.proofs.Types.{u32, u64, val, mutSlice, mutRef}
 use Rattle.thin.proofs.Mut.{mut-spec}
 use Rattle.handle.proofs.Types.{breaker, notice, noticed}
-use Rattle.circuit.proofs.refund as g
-use Rattle.circuit.proofs.refund.Symbol as g-def
-use Rattle.circuit.proofs.refund.Met as g-thm
+use Rattle.admission.proofs.refund as g
+use Rattle.admission.proofs.refund.Symbol as g-def
+use Rattle.admission.proofs.refund.Met as g-thm
 use Rattle.handle.proofs.refund as f
 use Rattle.handle.proofs.refund.Key as key
 use Rattle.handle.proofs.refund.Statement as stated

@@ -1,12 +1,12 @@
--- `handle::reserve` is thin over `circuit::reserve`. Assumes nothing.
+-- `handle::reserve` is thin over `admission::reserve`. Assumes nothing.
 use mathlib.Core.List.{[], _∷_}
 use base.Logic.{id⊢}
 use Rattle.thin.proofs.Types.{u64, val, mutSlice, mutRef}
 use Rattle.thin.proofs.Mut.{mut-spec}
 use Rattle.handle.proofs.Types.{breaker, reservation, reserved, reserving}
-use Rattle.circuit.proofs.reserve as g
-use Rattle.circuit.proofs.reserve.Symbol as g-def
-use Rattle.circuit.proofs.reserve.Met as g-thm
+use Rattle.admission.proofs.reserve as g
+use Rattle.admission.proofs.reserve.Symbol as g-def
+use Rattle.admission.proofs.reserve.Met as g-thm
 use Rattle.handle.proofs.reserve as f
 use Rattle.handle.proofs.reserve.Key as key
 use Rattle.handle.proofs.reserve.Statement as stated

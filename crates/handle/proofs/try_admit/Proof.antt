@@ -1,12 +1,12 @@
--- `handle::try_admit` is thin over `circuit::try_admit`. Assumes nothing.
+-- `handle::try_admit` is thin over `admission::try_admit`. Assumes nothing.
 use mathlib.Core.List.{[], _∷_}
 use base.Logic.{id⊢}
 use Rattle.thin.proofs.Types.{u32, u64, val, mutSlice, mutRef}
 use Rattle.thin.proofs.Mut.{mut-spec}
 use Rattle.handle.proofs.Types.{breaker, decision, tried, triedAnswer}
-use Rattle.circuit.proofs.try_admit as g
-use Rattle.circuit.proofs.try_admit.Symbol as g-def
-use Rattle.circuit.proofs.try_admit.Met as g-thm
+use Rattle.admission.proofs.try_admit as g
+use Rattle.admission.proofs.try_admit.Symbol as g-def
+use Rattle.admission.proofs.try_admit.Met as g-thm
 use Rattle.handle.proofs.try_admit as f
 use Rattle.handle.proofs.try_admit.Key as key
 use Rattle.handle.proofs.try_admit.Statement as stated

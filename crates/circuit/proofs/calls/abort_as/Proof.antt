@@ -7,7 +7,7 @@ use Rattle.breaker.specs.Calls as Calls
 use Rattle.breaker.specs.Rules as Rules
 use Rattle.breaker.specs.Orders.{nothing}
 use Rattle.breaker.proofs.Guard.{tested-sound, sound-refused, sound-done, sound-fields}
-use Rattle.circuit.proofs.Holding.{holds}
+use Rattle.steps.proofs.Holding.{holds}
 use Rattle.circuit.proofs.calls.abort_as.Statement.{statement}
 use Rattle.circuit.proofs.calls.abort_as.Tie as tie
 

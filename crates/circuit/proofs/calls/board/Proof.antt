@@ -11,9 +11,9 @@ use native.Mathlib.Omega.{arith}
 use Rattle.error.specs.Told.{tell}
 use Rattle.breaker.specs.declared.Breaker.{Breaker}
 use Rattle.circuit.proofs.Finishing.{failures-counted}
-use Rattle.circuit.proofs.Queries.{board-none, board-ratio}
+use Rattle.circuit.proofs.Figures.{board-none, board-ratio}
 use Rattle.breaker.proofs.Guard.{tested-sound, asked-refused, asked-done}
-use Rattle.circuit.proofs.Holding.{holds}
+use Rattle.steps.proofs.Holding.{holds}
 use Rattle.circuit.proofs.calls.board.Statement.{statement}
 use Rattle.circuit.proofs.calls.board.Tie as tie
 

@@ -6,7 +6,7 @@ use Rattle.breaker.specs.Record.{state, sound}
 use Rattle.breaker.specs.Calls as Calls
 use Rattle.breaker.specs.Rules as Rules
 use Rattle.breaker.proofs.Guard.{tested-sound, sound-refused, sound-done, sound-fields}
-use Rattle.circuit.proofs.Holding.{holds}
+use Rattle.steps.proofs.Holding.{holds}
 use Rattle.circuit.proofs.calls.record_manual.Statement.{statement}
 use Rattle.circuit.proofs.calls.record_manual.Tie as tie
 

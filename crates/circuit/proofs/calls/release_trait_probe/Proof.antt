@@ -7,9 +7,9 @@ use Rattle.breaker.specs.Calls as Calls
 use Rattle.breaker.specs.Rules as Rules
 use mathlib.Core.List.{[], _∷_}
 use Rattle.error.specs.Told.{tell}
-use Rattle.circuit.proofs.Settling.{released-list}
+use Rattle.steps.proofs.Aborting.{released-list}
 use Rattle.breaker.proofs.Guard.{tested-sound, sound-refused, sound-done, sound-fields}
-use Rattle.circuit.proofs.Holding.{holds}
+use Rattle.steps.proofs.Holding.{holds}
 use Rattle.circuit.proofs.calls.release_trait_probe.Statement.{statement}
 use Rattle.circuit.proofs.calls.release_trait_probe.Tie as tie
 

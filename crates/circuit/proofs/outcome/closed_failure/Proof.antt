@@ -9,7 +9,8 @@ use Rattle.history.specs.Change.{left, told}
 use Rattle.trip.specs.declared.Config.{Config}
 use Rattle.trip.specs.Policy.{policyOf}
 use Rattle.breaker.specs.Record.{State, state}
-use Rattle.circuit.specs.Locked.{Holds, recording}
+use Rattle.steps.specs.Steps.{Holds}
+use Rattle.circuit.specs.Locked.{recording}
 use Rattle.breaker.proofs.Record.{stored-state, padded-state}
 use Rattle.breaker.proofs.Keeps.{sound-state}
 use Rattle.circuit.proofs.Outcomes.{counted, failure-refused, failure-held, failure-sound, failure-trips, failure-stays}

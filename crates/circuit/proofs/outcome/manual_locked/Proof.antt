@@ -2,7 +2,7 @@
 use mathlib.Core.Path.{_≡_, refl, sym, ap, _∙_}
 use borrow.Author.Needs.{needs}
 use Rattle.breaker.specs.Record.{state}
-use Rattle.circuit.specs.Locked.{Holds}
+use Rattle.steps.specs.Steps.{Holds}
 use Rattle.breaker.proofs.Record.{stored-state, padded-state}
 use Rattle.circuit.proofs.Settling.{manual-off, manual-none, manual-one, used, used-sound}
 use Rattle.circuit.proofs.outcome.manual_locked.Statement.{statement}

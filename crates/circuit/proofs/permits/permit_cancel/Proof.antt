@@ -10,7 +10,7 @@ use mathlib.Core.List.{[], _∷_}
 use Rattle.error.specs.Told.{tell}
 use Rattle.breaker.specs.Calls.{After}
 use Rattle.breaker.proofs.Guard.{tested-sound, sound-refused, sound-done, sound-fields}
-use Rattle.circuit.proofs.Holding.{holds}
+use Rattle.steps.proofs.Holding.{holds}
 use Rattle.circuit.proofs.permits.permit_cancel.Statement.{statement}
 use Rattle.circuit.proofs.permits.permit_cancel.Tie as tie
 

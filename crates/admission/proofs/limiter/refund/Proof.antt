@@ -1,0 +1,57 @@
+-- `admission::limiter::refund` meets its contract: the step, once the breaker is tested. Assumes nothing.
+use mathlib.Core.Path.{_≡_, refl, sym, ap, _∙_}
+use mathlib.Core.Bool.{true}
+use borrow.Author.Needs.{needs}
+use Rattle.breaker.specs.Record.{state, sound}
+use Rattle.breaker.specs.Calls as Calls
+use Rattle.breaker.specs.Rules as Rules
+use mathlib.Core.List.{[], _∷_}
+use Rattle.error.specs.Told.{tell}
+use Rattle.steps.proofs.Aborting.{released-list}
+use Rattle.breaker.proofs.Guard.{tested-sound, sound-refused, sound-done, sound-fields}
+use Rattle.steps.proofs.Holding.{holds}
+use Rattle.admission.proofs.limiter.refund.Statement.{statement}
+use Rattle.admission.proofs.limiter.refund.Tie as tie
+
+tested : (c : tie.After-enum-told) → sound (c .before .before .before .before .before .args .breaker) (c .before .before .before .before .before .args .list .now) ≡ true
+tested c = tested-sound (c .before .before .before .before .before .args .breaker) (c .before .before .before .before .before .args .list .now) (sym (c .enum-told .given .1) ∙ c .before .before .test .ensures)
+
+test-requires : tie.Need-test-requires
+test-requires c κs = search needs
+
+enum-known-r : tie.Need-enum-known-r
+enum-known-r c = search needs
+
+enum-told : tie.Need-enum-told
+enum-told c = search needs
+
+release-locked-requires : tie.Need-release-locked-requires
+release-locked-requires c κs = search needs
+
+same-length : tie.Need-same-length
+same-length c = search needs
+
+returns : tie.Need-returns
+returns c = sound-refused (Calls.refund (c .before .before .before .before .before .before .args .cost)) (c .before .before .before .before .before .before .args .breaker) (c .before .before .before .before .before .before .args .list .now) (c .before .r .given .0 .0) (sym (c .before .r .given .1) ∙ c .before .before .before .test .ensures)
+
+same-length-2 : tie.Need-same-length-2
+same-length-2 c = search needs
+
+returns-2 : tie.Need-returns-2
+returns-2 c =
+    sound-fields (Calls.refund (c .before .before .before .before .before .before .args .cost)) (c .before .before .before .before .before .before .args .breaker) (c .before .before .before .before .before .before .args .list .now) (tested (c .before)) (tell 0 (c .before .before .before .before .before .before .args .cost ∷ [])) (Rules.released (state (c .before .before .before .before .before .before .args .breaker) (c .before .before .before .before .before .before .args .list .now))) (c .release-locked .result) refl
+    (c .release-locked .ensures (c .before .before .before .before .before .before .args .breaker .config) (state (c .before .before .before .before .before .before .args .breaker) (c .before .before .before .before .before .before .args .list .now)) (holds (c .before .before .before .before .before .before .args .breaker) (c .before .before .before .before .before .before .args .list .now) (tested (c .before)) .0))
+    (released-list (state (c .before .before .before .before .before .before .args .breaker) (c .before .before .before .before .before .before .args .list .now)))
+
+pub refund-spec : {M : Type 1} → statement M
+refund-spec =
+    tie.close
+    (tie.spec
+    test-requires
+    enum-known-r
+    enum-told
+    release-locked-requires
+    same-length
+    returns
+    same-length-2
+    returns-2)

@@ -1,0 +1,59 @@
+-- Each answer of still_admits and of making a breaker, from the tests that led to it. Assumes nothing.
+use mathlib.Core.Path.{_≡_, refl, sym, ap, ap₂, _∙_}
+use mathlib.Core.Bool.{Bool, true, false}
+use mathlib.Core.List.{List, [], _∷_}
+use Prim.Native.Nat.{ℕ, _-_}
+use lib.ListN.{length}
+use borrow.Author.Tests.{eq-eqb, ne-eqb}
+use Rattle.error.specs.Choice.{if_then_else_}
+use Rattle.error.specs.Told.{Told, tell, refused}
+use Rattle.error.specs.declared.Refusal.{Refusal}
+use Rattle.error.specs.declared.Refusal.the-variants.{Storage}
+use Rattle.history.specs.Items.{padded}
+use Rattle.trip.specs.declared.Config.{Config}
+use Rattle.trip.specs.declared.Built.{Built}
+use Rattle.trip.specs.declared.Built.the-variants.{Made, Refused}
+use Rattle.trip.specs.declared.CircuitBreakerBuilder.{CircuitBreakerBuilder}
+use Rattle.trip.specs.Settings.{builtOf, builtTold}
+use Rattle.trip.proofs.OneToOne.{built-one}
+use Rattle.breaker.specs.declared.Ticket.{Ticket}
+use Rattle.breaker.specs.declared.Breaker.{Breaker}
+use Rattle.breaker.specs.Record.{State, Closed, Open, settings, stored, state}
+use Rattle.breaker.specs.Rules.{stillAdmits, sheds, done}
+use Rattle.breaker.specs.Calls.{after, kept, fresh, put, built}
+
+-- ---- still_admits
+module _ (reading : ℕ) (t : Ticket) (st : State) where
+  pub still-same : t .generation ≡ st .generation → tell 0 [] ≡ stillAdmits reading t st
+  unfolding stillAdmits
+  still-same g = simp (eq-eqb _ _ g)
+
+  module _ (n : t .generation ≡ st .generation → ⊥) where
+    pub still-closed : st .state ≡ Closed → tell 0 [] ≡ stillAdmits reading t st
+    unfolding stillAdmits
+    still-closed k = simp (ne-eqb _ _ n, eq-eqb _ _ k)
+
+    pub still-open : (st .state ≡ Closed → ⊥) → st .state ≡ Open → sheds (st .openUntil - reading) ≡ stillAdmits reading t st
+    unfolding stillAdmits
+    still-open m k = simp (ne-eqb _ _ n, ne-eqb _ _ m, eq-eqb _ _ k)
+
+    pub still-half : (st .state ≡ Closed → ⊥) → (st .state ≡ Open → ⊥) → sheds 0 ≡ stillAdmits reading t st
+    unfolding stillAdmits
+    still-half m k = simp (ne-eqb _ _ n, ne-eqb _ _ m, ne-eqb _ _ k)
+
+-- ---- making a breaker
+module _ (builder : CircuitBreakerBuilder) (b : Breaker) (s : List ℕ) where
+  pub built-storage : (length s ≡ 4096 → ⊥) → after (refused Storage) b s ≡ built builder b s
+  unfolding built
+  built-storage n = simp (ne-eqb (length s) 4096 n)
+
+  module _ (p : length s ≡ 4096) (x : Built) (e : builtTold x ≡ builtTold (builtOf builder)) where
+    puts : put x b s ≡ built builder b s
+    unfolding built
+    puts = simp (eq-eqb (length s) 4096 p) (ap (λ (y : Built). put y b s) (built-one x (builtOf builder) e))
+
+    pub built-refused : (r : Refusal) → x ≡ Refused r → after (refused r) b s ≡ built builder b s
+    built-refused r q = ap (λ (y : Built). put y b s) (sym q) ∙ puts
+
+    pub built-made : (c : Config) (places : List ℕ) → x ≡ Made c → places ≡ padded [] → after (tell 0 []) (stored c fresh) places ≡ built builder b s
+    built-made c places q l = ap (after (tell 0 []) (stored c fresh)) l ∙ ap (λ (y : Built). put y b s) (sym q) ∙ puts

@@ -1,0 +1,47 @@
+-- `breaker::calls::build` meets its contract: what the builder made, in cleared storage. Assumes nothing.
+use mathlib.Core.Path.{_≡_, refl, sym, ap, _∙_}
+use borrow.Author.Needs.{needs}
+use Rattle.history.specs.Change.{Left}
+use Rattle.history.proofs.Held.{clear-all}
+use Rattle.breaker.proofs.Queries.{built-storage, built-refused, built-made}
+use Rattle.breaker.proofs.calls.build.Statement.{statement}
+use Rattle.breaker.proofs.calls.build.Tie as tie
+
+returns : tie.Need-returns
+returns c = built-storage (c .before .before .args .builder) (c .before .before .args .breaker) (c .before .before .args .list .now) (c .if1 .taken)
+
+config-requires : tie.Need-config-requires
+config-requires c κs = search needs
+
+enum-known-r : tie.Need-enum-known-r
+enum-known-r c = search needs
+
+enum-known-config : tie.Need-enum-known-config
+enum-known-config c = search needs
+
+clear-requires : tie.Need-clear-requires
+clear-requires c κs = search needs
+
+returns-2 : tie.Need-returns-2
+returns-2 c = built-refused (c .before .before .before .before .before .before .args .builder) (c .before .before .before .before .before .before .args .breaker) (c .before .before .before .before .before .before .args .list .now) (c .before .before .before .before .if1 .left) (c .before .before .before .config .result) (c .before .before .before .config .ensures) (c .before .r .given .0 .0) (c .before .r .given .1)
+
+same-length : tie.Need-same-length
+same-length c = search needs
+
+returns-3 : tie.Need-returns-3
+returns-3 c =
+    built-made (c .before .before .before .before .before .before .before .before .before .before .args .builder) (c .before .before .before .before .before .before .before .before .before .before .args .breaker) (c .before .before .before .before .before .before .before .before .before .before .args .list .now) (c .before .before .before .before .before .before .before .before .if1 .left) (c .before .before .before .before .before .before .before .config .result) (c .before .before .before .before .before .before .before .config .ensures) (c .before .before .before .before .before .config2 .given .0 .0) (c .before .before .clear .last .0) (c .before .before .before .before .before .config2 .given .1)
+    (ap (λ (l : Left). l .places) (c .before .before .clear .ensures ∙ clear-all (c .before .before .before .before .before .before .before .before .before .before .args .list .now) (c .before .before .before .before .before .before .before .before .if1 .left)))
+
+pub build-spec : {M : Type 1} → statement M
+build-spec =
+    tie.close
+    (tie.spec
+    returns
+    config-requires
+    enum-known-r
+    enum-known-config
+    clear-requires
+    returns-2
+    same-length
+    returns-3)
