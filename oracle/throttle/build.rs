@@ -5,7 +5,8 @@ use std::{env, fs};
 
 const FILES: [&str; 6] = ["circuit", "decision", "error", "limiter", "obs", "wait"];
 
-/// Where the sources stand, from the repository's top, unless THROTTLE_SRC says.
+/// The `src` folder of jamesgober/throttle-net at 9650d9a7d1, from the repository's top, unless
+/// THROTTLE_SRC says where it is.
 const BESIDE: &str = "../shared/docs/src";
 
 fn main() {
@@ -15,8 +16,8 @@ fn main() {
     let source = source_folder();
     if let Err(what) = lay_out(&source, &folder("OUT_DIR")) {
         println!(
-            "cargo::error={what}; THROTTLE_SRC must name the folder that holds the .rs files of \
-             throttle-net (default: {BESIDE} from the repository's top)"
+            "cargo::error={what}; THROTTLE_SRC must name the src folder of jamesgober/throttle-net \
+             at 9650d9a7d1 (default: {BESIDE} from the repository's top)"
         );
     }
 }

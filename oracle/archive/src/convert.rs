@@ -14,6 +14,7 @@ pub fn plain_waited(waited: Waited) -> Answer {
     Answer::new(waited.number.into(), [waited.v1, waited.v2, waited.v3])
 }
 
+#[inline]
 pub fn own(ticket: plain::Ticket) -> ffi::Ticket {
     ffi::Ticket {
         generation: ticket.generation,
