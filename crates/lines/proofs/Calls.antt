@@ -10,7 +10,7 @@ use lib.Dec.{eqb}
 use borrow.Author.Tests.{eqb-true}
 use Rattle.error.specs.Choice.{if_then_else_}
 use Rattle.lines.specs.Print.{printDecimal, printFields, printCall, readingOf, letterOf, fieldsOf, bit, AllFit, CallFits}
-use Rattle.lines.specs.Take.{got, none, max64, digitOf, takeNumber, takeRest, printAll, Within, limitsOf, madeCall, takeKind, takeLetter, takeCall, seenCall}
+use Rattle.lines.specs.Take.{got, none, max64, digitOf, takeNumber, takeRest, printAll, Within, limitsOf, madeCall, takeKind, takeLetter, takeCall, seenCall, callEnd}
 use Rattle.lines.specs.Reads.{CallRead}
 use Rattle.lines.specs.declared.Call.{Call}
 use Rattle.lines.specs.declared.Call.the-variants.{Admit, Success, Failure, Abort, Reset}
@@ -132,9 +132,9 @@ call-back bs c rest e = go (bound-back (takeNumber max64 bs) takeLetter c rest e
         ((omega (arith, l .0, m .0), l .1), rw (line c rest) (cc (l .0, l .2, m .1)))
 
 -- ---- what a reader's answer says of the bytes
-pub call-read : (s : List ℕ) (at : ℕ) (r : ReadCall) → seenCall s r ≡ takeCall (drop at s) → CallRead s at r
-call-read s at (Is c next) e = call-back (drop at s) c (drop next s) (sym e)
-call-read s at Malformed e = λ c rest f q. let t = call-there c rest f in let z : _≡_ {A = ℕ} 0 1 = cc in omega arith
+pub call-read : (s : List ℕ) (at : ℕ) (r : ReadCall) → seenCall s r ≡ takeCall (drop at s) → callEnd r ≤ length s → CallRead s at r
+call-read s at (Is c next) e h = let b = call-back (drop at s) c (drop next s) (sym e) in (b .0, b .1, h)
+call-read s at Malformed e h = λ c rest f q. let t = call-there c rest f in let z : _≡_ {A = ℕ} 0 1 = cc in omega arith
 
 -- bytes begin with one call's line at most
 pub same-call : (c d : Call) (x y : List ℕ) → CallFits c → CallFits d → printCall c ++ x ≡ printCall d ++ y → (c ≡ d) × (x ≡ y)

@@ -16,7 +16,7 @@ unfoldable pub decimalIn : ℕ → ℕ → List ℕ
 decimalIn zero n = []
 decimalIn (suc k) n = (if ltb n 10 then [] else decimalIn k (n / 10)) ++ ((48 + n % 10) ∷ [])
 
--- n in decimal (a number has fewer digits than suc n)
+-- n in decimal (it has at most suc n digits)
 unfoldable pub printDecimal : ℕ → List ℕ
 printDecimal n = decimalIn (suc n) n
 
