@@ -5,10 +5,7 @@ use mathlib.Core.Path.{_≡_, refl, sym, ap, ap₂, _∙_}
 use mathlib.Core.Bool.{Bool, true, false, not, _&&_, _||_, false≢true}
 use mathlib.Core.List.{List, [], _∷_, _++_}
 use lib.Dec.{eqb, leb}
-use Rattle.error.specs.Choice.{if_then_else_}
 use Rattle.error.proofs.Choice.{if-cases}
-use Rattle.error.specs.declared.Refusal.{Refusal}
-use Rattle.error.specs.declared.Refusal.the-variants as Refusal·is
 use Rattle.wait.specs.declared.Wait.{Wait}
 use Rattle.wait.specs.declared.Observed.{Observed}
 use Rattle.wait.specs.declared.Move.{Move}
@@ -24,7 +21,7 @@ use Rattle.wait.specs.Keep.{isKnown, tested, postponed, napOf, checks, g
 use Rattle.wait.specs.Run.{running, counted, standing, onward, steps}
 use Rattle.wait.proofs.Limits.{times, bounded, →bounded}
 use Rattle.wait.proofs.Steps.{grant-bounded}
-use Rattle.wait.proofs.Walks.{counting}
+use Rattle.wait.proofs.Walks.{in-order, counting}
 
 -- ---- one by one
 
@@ -37,12 +34,6 @@ taking (Turned·is.Refused r) w more = running (Ran·is.Refused r) 0 w
 abbrev taken : Turning → (Wait → Running) → Running
 taken x more = taking (x .answer) (x .wait) more
 
-pick-map : {A B : Type 0} (h : A → B) (f : Refusal → A) (a : A) (x y : Bool)
-    → h (if x then f Refusal·is.Turn else if y then f Refusal·is.Time else a) ≡ (if x then h (f Refusal·is.Turn) else if y then h (f Refusal·is.Time) else h a)
-pick-map h f a true y = refl
-pick-map h f a false true = refl
-pick-map h f a false false = refl
-
 leaves-onward : (m : Move) (more : Wait → Running) → taken (leaves m) more ≡ onward m more
 leaves-onward (Goes act w) more = refl
 leaves-onward (Ends e) more = refl
@@ -52,7 +43,7 @@ pub by-turns : (t : Observed) (ts : List Observed) (w : Wait) → steps (t ∷ t
 unfolding steps turned
 by-turns t ts w =
     ap (λ (x : Running). tested (λ r. running (Ran·is.Refused r) 0 w) x w t) (sym (leaves-onward (moves w t) (λ v. steps ts v)))
-    ∙ sym (pick-map (λ (x : Turning). taken x (λ v. steps ts v)) (λ r. turning (Turned·is.Refused r) w) (leaves (moves w t)) (hasEnded w || not (isKnown (t .kind))) (not (waitInBounds w && turnInBounds t)))
+    ∙ sym (in-order (λ (x : Turning). taken x (λ v. steps ts v)) (λ r. turning (Turned·is.Refused r) w) (leaves (moves w t)) (hasEnded w || not (isKnown (t .kind))) (not (waitInBounds w && turnInBounds t)))
 
 -- ---- a run that is not ended, and then another, is one run
 
