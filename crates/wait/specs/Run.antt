@@ -45,6 +45,9 @@ steps (t ∷ ts) w = tested (λ r. running (Ran·is.Refused r) 0 w) (onward (mov
 
 -- ---- the entry point: "turns not a multiple of 8" is 3; then as many turns as the limit says
 
+abbrev pub wholeTurns : List ℕ → Bool
+wholeTurns xs = eqb (length xs % 8) 0
+
 -- "A turn reads eight 64-bit numbers: clock in nanoseconds, resume epoch before and after, reply kind, reply duration, pause, total
 -- postponement before and after."
 abbrev pub turnOf : List ℕ → Observed
@@ -67,7 +70,7 @@ turnsOf (suc k) xs = turnOf xs ∷ turnsOf k (drop 8 xs)
 
 unfoldable pub runs : Wait → List ℕ → ℕ → Running
 runs w xs limit =
-    if eqb (length xs % 8) 0 then steps (take limit (turnsOf (length xs / 8) xs)) w
+    if wholeTurns xs then steps (take limit (turnsOf (length xs / 8) xs)) w
     else running (Ran·is.Refused Refusal·is.Storage) 0 w
 
 -- "turns taken, wait reached" beside what was told
