@@ -1,4 +1,4 @@
--- A run is its turns one by one, a run that is not ended can be gone on with, and what a turn leaves is within its bounds. Assumes nothing.
+-- A run is its turns one by one, a run that is not ended can be gone on with, and a new wait and what a turn leaves are within their bounds. Assumes nothing.
 use Prim.Native.Nat.{ℕ, suc, _+_, _-_, _≤_, max}
 use native.Mathlib.Omega.{arith}
 use mathlib.Core.Path.{_≡_, refl, sym, ap, ap₂, _∙_}
@@ -16,10 +16,10 @@ use Rattle.wait.specs.declared.Turning.{Turning}
 use Rattle.wait.specs.declared.Ran.{Ran}
 use Rattle.wait.specs.declared.Ran.the-variants as Ran·is
 use Rattle.wait.specs.declared.Running.{Running}
-use Rattle.wait.specs.Turns.{isHolding, hasEnded, turnInBounds, waitInBounds, remaining, exceeds, usedUp, withZeros, naps, retriesZero, retries}
+use Rattle.wait.specs.Turns.{isHolding, hasEnded, isTime, newWait, turnInBounds, waitInBounds, remaining, exceeds, usedUp, withZeros, naps, retriesZero, retries}
 use Rattle.wait.specs.Keep.{isKnown, tested, postponed, napOf, checks, grants, moves, leaves, turning, turned}
 use Rattle.wait.specs.Run.{running, counted, standing, onward, steps}
-use Rattle.wait.proofs.Limits.{times, bounded, →bounded}
+use Rattle.wait.proofs.Limits.{time-le, times, bounded, →bounded}
 use Rattle.wait.proofs.Steps.{grant-bounded}
 use Rattle.wait.proofs.Walks.{in-order, counting}
 
@@ -79,7 +79,12 @@ two-runs [] us w n v e = nothing-first us w n v e
 two-runs (t ∷ ts) us w n v e =
     by-turns t (ts ++ us) w ∙ join-one (turned w t .answer) (turned w t .wait) ts us n v (λ x k h. two-runs ts us x k v h) (sym (by-turns t ts w) ∙ e)
 
--- ---- what a turn leaves is within its bounds
+-- ---- a new wait and what a turn leaves are within their bounds
+
+pub new-kept : (clock : ℕ) (limited : Bool) (timeout : ℕ) → isTime clock ≡ true → isTime timeout ≡ true → waitInBounds (newWait clock limited timeout) ≡ true
+new-kept clock true timeout a b =
+    →bounded _ (record { deadline = omega (arith, time-le clock a, time-le timeout b); seen = omega arith; due = omega arith })
+new-kept clock false timeout a b = →bounded _ (record { deadline = omega arith; seen = omega arith; due = omega arith })
 
 abbrev pub boundedMove : Move → Bool
 boundedMove (Goes act v) = waitInBounds v
