@@ -1,5 +1,5 @@
 -- "Each run of turns has a limit and reports how many turns it took, which equals the steps of these rules." Definitions only.
-use Prim.Native.Nat.{ℕ, zero, suc, _+_, _/_, _%_}
+use Prim.Native.Nat.{ℕ, zero, suc, _/_, _%_}
 use mathlib.Core.Bool.{Bool}
 use mathlib.Core.List.{List, [], _∷_}
 use lib.Dec.{eqb}
@@ -48,7 +48,7 @@ steps (t ∷ ts) w = tested (λ r. running (Ran·is.Refused r) 0 w) (onward (mov
 abbrev pub wholeTurns : List ℕ → Bool
 wholeTurns xs = eqb (length xs % 8) 0
 
--- "A turn reads eight 64-bit numbers: clock in nanoseconds, resume epoch before and after, reply kind, reply duration, pause, total
+-- "A turn reads eight 64-bit numbers: clock in nanoseconds, resume epoch before and after, reply kind …, reply duration, pause, total
 -- postponement before and after."
 abbrev pub turnOf : List ℕ → Observed
 turnOf xs =

@@ -112,7 +112,7 @@ fn turn_at(turns: &[u64], at: usize) -> Observed
     }
 }
 
-// What a run is told that has no turn to take.
+// What a run is told when no turn is left or its limit is reached.
 fn stand(wait: Wait) -> Ran
     ensures { λ r. ⌜ r ≡ standing wait ⌝ }
 {
@@ -180,7 +180,7 @@ pub fn run(wait: Wait, turns: &[u64], limit: u64) -> Running
     }
 }
 
-// Ends a wait before its time (`Drop` of the Rust's `Release`): a held grant is to be given back.
+// Ends a wait before it has ended (`Drop` of the Rust's `Release`): a held grant is to be given back.
 // Ruled out: one that keeps a held grant; one that gives back for a wait that holds none.
 pub fn drop_wait(wait: Wait) -> Dropping
     ensures { λ r. ⌜ tellDrop r ≡ tellDrop (dropped wait) ⌝ }
