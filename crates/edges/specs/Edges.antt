@@ -44,6 +44,9 @@ P4 =
 abbrev pub set : Policy → ℕ → ℕ → Settings
 set p cooldown required = record { policy = p; cooldown = cooldown; trials = 2; required = required }
 
+abbrev pub plain : ℕ → Ticket
+plain g = record { generation = g; probe = false }
+
 abbrev pub probe : ℕ → Ticket
 probe g = record { generation = g; probe = true }
 
@@ -69,11 +72,11 @@ half = record { kind = 2; limit = 4; «ratio_bits» = 0x3fe0_0000_0000_0000; «m
 -- "P6 window 4, 0.5, min 4: F S F S S F trips at the sixth only."
 abbrev pub P6 : Type 0
 P6 =
-    states (settings half) 40 (failure (probe 0) ∷ success (probe 0) ∷ failure (probe 0) ∷ success (probe 0) ∷ success (probe 0) ∷ failure (probe 0) ∷ []) fresh
+    states (settings half) 40 (failure (plain 0) ∷ success (plain 0) ∷ failure (plain 0) ∷ success (plain 0) ∷ success (plain 0) ∷ failure (plain 0) ∷ []) fresh
     ≡ Closed ∷ Closed ∷ Closed ∷ Closed ∷ Closed ∷ Open ∷ []
 
 abbrev pub failedAt : ℕ → State → State
-failedAt reading st = finish (set (Windowed 2 100) 1000 1) reading (failure (probe 0)) st .after
+failedAt reading st = finish (set (Windowed 2 100) 1000 1) reading (failure (plain 0)) st .after
 
 -- "P7 failures 2, period 100: 0 and 100 trip; 0 and 101 don't."
 abbrev pub P7 : Type 0

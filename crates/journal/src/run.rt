@@ -62,7 +62,7 @@ pub(crate) fn replay_all(s: &[u8], more: bool, list: &mut [u64], out: &mut [u8])
     ensures { λ r. ⌜ Kept r (now (out .entry)) (now (out .exit)) ⌝ }
 {
     let read = lines::read_header(s, 0);
-    let ReadHeader::Heads(header, at) = read else {
+    let ReadHeader::Is(header, at) = read else {
         return write_malformed(out, 0, 1);
     };
     let made = breaker::build(blank(), list, builder_of(header));

@@ -8,9 +8,10 @@ use lib.ListN.{length, take, drop, getD}
 use lib.Seq.{getD-take}
 use lib.Dec.{eqb}
 use borrow.Author.Tests.{eqb-true}
-use Rattle.error.specs.Choice.{if_then_else_}
-use Rattle.lines.specs.Print.{printDecimal, printFields, printCall, readingOf, letterOf, fieldsOf, bit, AllFit, CallFits}
-use Rattle.lines.specs.Take.{got, none, max64, digitOf, takeNumber, takeRest, printAll, Within, limitsOf, madeCall, takeKind, takeLetter, takeCall, seenCall}
+use Rattle.error.specs.Choice.{if_then_else_, bit}
+use Rattle.error.proofs.Choice.{bit-back}
+use Rattle.lines.specs.Print.{printDecimal, printFields, printCall, readingOf, letterOf, fieldsOf, AllFit, CallFits}
+use Rattle.lines.specs.Take.{got, none, max64, digitOf, takeNumber, takeRest, printAll, Within, limitsOf, madeCall, takeKind, takeLetter, takeCall, seenCall, callEnd}
 use Rattle.lines.specs.Reads.{CallRead}
 use Rattle.lines.specs.declared.Call.{Call}
 use Rattle.lines.specs.declared.Call.the-variants.{Admit, Success, Failure, Abort, Reset}
@@ -28,17 +29,13 @@ unfolding printAll printFields
 ticket-there g true rest h = rest-there ticket (g ∷ 1 ∷ []) rest (omega arith, (omega arith, tt))
 ticket-there g false rest h = rest-there ticket (g ∷ 0 ∷ []) rest (omega arith, (omega arith, tt))
 
-bit-is : (p : Bool) → eqb (bit p) 1 ≡ p
-bit-is true = refl
-bit-is false = refl
-
 kind-there : (c : Call) (rest : List ℕ) → CallFits c → takeKind (readingOf c) (letterOf c ∷ (printFields (fieldsOf c) ++ (10 ∷ rest))) ≡ got c rest
 unfolding takeKind limitsOf takeRest printFields
 kind-there (Admit t) rest f = refl
 kind-there (Reset t) rest f = refl
-kind-there (Success t g p) rest f = rw (ticket-there g p rest (f .1 .0), bit-is p)
-kind-there (Failure t g p) rest f = rw (ticket-there g p rest (f .1 .0), bit-is p)
-kind-there (Abort t g p) rest f = rw (ticket-there g p rest (f .1 .0), bit-is p)
+kind-there (Success t g p) rest f = rw (ticket-there g p rest (f .1 .0), bit-back p)
+kind-there (Failure t g p) rest f = rw (ticket-there g p rest (f .1 .0), bit-back p)
+kind-there (Abort t g p) rest f = rw (ticket-there g p rest (f .1 .0), bit-back p)
 
 -- a call's line with what follows it, as the readers meet it
 line : (c : Call) (rest : List ℕ) → printCall c ++ rest ≡ printDecimal (readingOf c) ++ (32 ∷ letterOf c ∷ (printFields (fieldsOf c) ++ (10 ∷ rest)))
@@ -57,10 +54,10 @@ call-there c rest f =
 abbrev Order : ℕ → ℕ → List ℕ → Call → List ℕ → Type 0
 Order t k bs c rest = (readingOf c ≡ t) × (letterOf c ≡ k) × AllFit (fieldsOf c) × (bs ≡ printFields (fieldsOf c) ++ (10 ∷ rest))
 
-bit-back : (p : ℕ) → p ≤ 1 → bit (eqb p 1) ≡ p
-bit-back zero h = refl
-bit-back (suc zero) h = refl
-bit-back (suc (suc p)) h = absurd (omega arith)
+is-bit : (p : ℕ) → p ≤ 1 → bit (eqb p 1) ≡ p
+is-bit zero h = refl
+is-bit (suc zero) h = refl
+is-bit (suc (suc p)) h = absurd (omega arith)
 
 -- a call with a ticket, and one without
 ticket-back : (k : ℕ) (bs vs rest : List ℕ) (make : ℕ → Bool → Call) (t : ℕ) → ((g : ℕ) (p : Bool) → (readingOf (make g p) ≡ t) × (letterOf (make g p) ≡ k) × (fieldsOf (make g p) ≡ g ∷ bit p ∷ []))
@@ -73,7 +70,7 @@ ticket-back k bs vs rest make t h e = let b = rest-back ticket bs vs rest e in g
     go (g ∷ p ∷ v ∷ vs) w e = absurd (w .1 .1)
     go (g ∷ p ∷ []) w e =
         let m = h g (eqb p 1) in
-        rw (m .2, bit-back p (w .1 .0)) (m .0, m .1, (omega (arith, w .0), (omega (arith, w .1 .0), tt)), e)
+        rw (m .2, is-bit p (w .1 .0)) (m .0, m .1, (omega (arith, w .0), (omega (arith, w .1 .0), tt)), e)
 
 bare-back : (k : ℕ) (bs vs rest : List ℕ) (d : Call) (t : ℕ) → readingOf d ≡ t → letterOf d ≡ k → fieldsOf d ≡ [] → takeRest [] bs ≡ got vs rest → Order t k bs d rest
 unfolding printAll printFields
@@ -132,9 +129,9 @@ call-back bs c rest e = go (bound-back (takeNumber max64 bs) takeLetter c rest e
         ((omega (arith, l .0, m .0), l .1), rw (line c rest) (cc (l .0, l .2, m .1)))
 
 -- ---- what a reader's answer says of the bytes
-pub call-read : (s : List ℕ) (at : ℕ) (r : ReadCall) → seenCall s r ≡ takeCall (drop at s) → CallRead s at r
-call-read s at (Is c next) e = call-back (drop at s) c (drop next s) (sym e)
-call-read s at Malformed e = λ c rest f q. let t = call-there c rest f in let z : _≡_ {A = ℕ} 0 1 = cc in omega arith
+pub call-read : (s : List ℕ) (at : ℕ) (r : ReadCall) → seenCall s r ≡ takeCall (drop at s) → callEnd r ≤ length s → CallRead s at r
+call-read s at (Is c next) e h = let b = call-back (drop at s) c (drop next s) (sym e) in (b .0, b .1, h)
+call-read s at Malformed e h = λ c rest f q. let t = call-there c rest f in let z : _≡_ {A = ℕ} 0 1 = cc in omega arith
 
 -- bytes begin with one call's line at most
 pub same-call : (c d : Call) (x y : List ℕ) → CallFits c → CallFits d → printCall c ++ x ≡ printCall d ++ y → (c ≡ d) × (x ≡ y)

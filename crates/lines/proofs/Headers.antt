@@ -2,7 +2,7 @@
 use mathlib.Core.Path.{_≡_, refl, sym, ap}
 use mathlib.Core.Bool.{Bool, true, false}
 use mathlib.Core.List.{List, [], _∷_, _++_, append-assoc}
-use Prim.Native.Nat.{ℕ, _+_, _<_, _^_}
+use Prim.Native.Nat.{ℕ, _+_, _≤_, _<_, _^_}
 use native.Mathlib.Omega.{arith}
 use lib.ListN.{length, take, drop, getD}
 use lib.Seq.{getD-take}
@@ -10,12 +10,12 @@ use lib.Dec.{eqb}
 use borrow.Author.Tests.{eqb-true}
 use Rattle.error.specs.Choice.{if_then_else_}
 use Rattle.lines.specs.Print.{printDecimal, printHex16, printFields, printHeader, HeaderFits}
-use Rattle.lines.specs.Take.{got, none, max32, takeRest, printAll, Within, limitsOf, madeHeader, takeHeader, seenHeader}
+use Rattle.lines.specs.Take.{got, none, max32, takeRest, printAll, Within, limitsOf, madeHeader, takeHeader, seenHeader, headerEnd}
 use Rattle.lines.specs.Reads.{HeaderRead}
 use Rattle.lines.specs.declared.Header.{Header}
 use Rattle.lines.specs.declared.Header.the-variants.{Consecutive, Ratio, Windowed}
 use Rattle.lines.specs.declared.ReadHeader.{ReadHeader}
-use Rattle.lines.specs.declared.ReadHeader.the-variants.{Heads, Headless}
+use Rattle.lines.specs.declared.ReadHeader.the-variants as ReadHeader·is
 use Rattle.lines.proofs.Fields.{bound-back, rest-there, rest-back, within-at, within-each}
 
 -- ---- a header's letter and values
@@ -110,9 +110,9 @@ header-back (k ∷ bs) h rest e = go (bound-back (takeRest (limitsOf k) bs) (λ 
         (m .0 .0, rw (line-more h rest, m .0 .1, m .0 .2, ← m .1) (ap (λ (t : List ℕ). k ∷ t) (b .1)))
 
 -- ---- what a reader's answer says of the bytes
-pub header-read : (s : List ℕ) (at : ℕ) (r : ReadHeader) → seenHeader s r ≡ takeHeader (drop at s) → HeaderRead s at r
-header-read s at (Heads h next) e = header-back (drop at s) h (drop next s) (sym e)
-header-read s at Headless e = λ h rest f q. let t = header-there h rest f in let z : _≡_ {A = ℕ} 0 1 = cc in omega arith
+pub header-read : (s : List ℕ) (at : ℕ) (r : ReadHeader) → seenHeader s r ≡ takeHeader (drop at s) → headerEnd r ≤ length s → HeaderRead s at r
+header-read s at (ReadHeader·is.Is h next) e n = let b = header-back (drop at s) h (drop next s) (sym e) in (b .0, b .1, n)
+header-read s at ReadHeader·is.Malformed e n = λ h rest f q. let t = header-there h rest f in let z : _≡_ {A = ℕ} 0 1 = cc in omega arith
 
 -- bytes begin with one header's line at most
 pub same-header : (c d : Header) (x y : List ℕ) → HeaderFits c → HeaderFits d → printHeader c ++ x ≡ printHeader d ++ y → (c ≡ d) × (x ≡ y)

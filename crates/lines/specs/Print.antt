@@ -1,9 +1,8 @@
 -- "The archive journal": how its numbers and lines are printed. Definitions only.
 use Prim.Native.Nat.{ℕ, zero, suc, _+_, _/_, _%_, _^_, _<_}
-use mathlib.Core.Bool.{Bool, true, false}
 use mathlib.Core.List.{List, [], _∷_, _++_}
 use lib.Dec.{ltb}
-use Rattle.error.specs.Choice.{if_then_else_}
+use Rattle.error.specs.Choice.{if_then_else_, bit}
 use Rattle.lines.specs.declared.Call.{Call}
 use Rattle.lines.specs.declared.Call.the-variants.{Admit, Success, Failure, Abort, Reset}
 use Rattle.lines.specs.declared.Header.{Header}
@@ -16,7 +15,7 @@ unfoldable pub decimalIn : ℕ → ℕ → List ℕ
 decimalIn zero n = []
 decimalIn (suc k) n = (if ltb n 10 then [] else decimalIn k (n / 10)) ++ ((48 + n % 10) ∷ [])
 
--- n in decimal (a number has fewer digits than suc n)
+-- n in decimal (it has at most suc n digits)
 unfoldable pub printDecimal : ℕ → List ℕ
 printDecimal n = decimalIn (suc n) n
 
@@ -52,10 +51,6 @@ printHeader (Ratio window bits least cooldown trials required) =
 printHeader (Windowed failures period cooldown trials required) = printLine 87 (failures ∷ period ∷ cooldown ∷ trials ∷ required ∷ [])
 
 -- "Each further line: reading, then `A` admit, `S`, `F`, `X` (success, failure, abort; then generation and probe 0/1) or `Z` reset."
-abbrev pub bit : Bool → ℕ
-bit false = 0
-bit true = 1
-
 abbrev pub readingOf : Call → ℕ
 readingOf (Admit t) = t
 readingOf (Success t g p) = t

@@ -13,11 +13,11 @@ use Rattle.lines.specs.declared.Place.the-variants.{At, Nowhere}
 use Rattle.lines.specs.declared.Call.{Call}
 use Rattle.lines.specs.declared.Call.the-variants.{Admit, Success, Failure, Abort, Reset}
 use Rattle.lines.specs.declared.ReadCall.{ReadCall}
-use Rattle.lines.specs.declared.ReadCall.the-variants.{Is, Malformed}
+use Rattle.lines.specs.declared.ReadCall.the-variants as ReadCall·is
 use Rattle.lines.specs.declared.Header.{Header}
 use Rattle.lines.specs.declared.Header.the-variants.{Consecutive, Ratio, Windowed}
 use Rattle.lines.specs.declared.ReadHeader.{ReadHeader}
-use Rattle.lines.specs.declared.ReadHeader.the-variants.{Heads, Headless}
+use Rattle.lines.specs.declared.ReadHeader.the-variants as ReadHeader·is
 
 -- a value and what stands after it, or nothing
 pub data Taken (A : Type 0) : Type 0 where
@@ -105,6 +105,11 @@ abbrev pub seenAll : List ℕ → List ℕ → Place → Taken (List ℕ)
 seenAll s vs (At next) = got vs (drop next s)
 seenAll s vs Nowhere = none
 
+-- the place after the fields, 0 where there is none
+abbrev pub placeEnd : Place → ℕ
+placeEnd (At next) = next
+placeEnd Nowhere = 0
+
 -- each value within its limit
 abbrev pub Within : List ℕ → List ℕ → Type 0
 Within [] [] = Unit
@@ -146,8 +151,13 @@ unfoldable pub takeCall : List ℕ → Taken Call
 takeCall bs = bound (takeNumber max64 bs) takeLetter
 
 abbrev pub seenCall : List ℕ → ReadCall → Taken Call
-seenCall s (Is c next) = got c (drop next s)
-seenCall s Malformed = none
+seenCall s (ReadCall·is.Is c next) = got c (drop next s)
+seenCall s ReadCall·is.Malformed = none
+
+-- the place after the line, 0 where there is none
+abbrev pub callEnd : ReadCall → ℕ
+callEnd (ReadCall·is.Is c next) = next
+callEnd ReadCall·is.Malformed = 0
 
 -- the header of a letter and the values behind it
 abbrev pub madeHeader : ℕ → List ℕ → List ℕ → Taken Header
@@ -162,5 +172,9 @@ takeHeader [] = none
 takeHeader (k ∷ bs) = bound (takeRest (limitsOf k) bs) (λ vs rest. madeHeader k vs rest)
 
 abbrev pub seenHeader : List ℕ → ReadHeader → Taken Header
-seenHeader s (Heads h next) = got h (drop next s)
-seenHeader s Headless = none
+seenHeader s (ReadHeader·is.Is h next) = got h (drop next s)
+seenHeader s ReadHeader·is.Malformed = none
+
+abbrev pub headerEnd : ReadHeader → ℕ
+headerEnd (ReadHeader·is.Is h next) = next
+headerEnd ReadHeader·is.Malformed = 0

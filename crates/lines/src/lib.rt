@@ -18,7 +18,7 @@ pub enum Call {
     Reset(u64),
 }
 
-// The first line. Ratio: window, bits, least calls. Windowed: failures, period. Then cooldown, trials, required; times in milliseconds.
+// The first line. Ratio: window, bits, minimum calls. Windowed: failures, period. Then cooldown, trials, required; times in milliseconds.
 pub enum Header {
     Consecutive(u32, u64, u32, u32),
     Ratio(u32, u64, u32, u64, u32, u32),
@@ -33,8 +33,8 @@ pub enum ReadCall {
 
 // A header and the place after its line.
 pub enum ReadHeader {
-    Heads(Header, usize),
-    Headless,
+    Is(Header, usize),
+    Malformed,
 }
 
 // A number and the place after it.
@@ -55,7 +55,7 @@ struct Limits {
     of: [u64; 6],
 }
 
-// The call whose line stands at `at`, line feed and all.
+// The call whose line stands at `at`, with its line feed.
 // Ruled out: one that takes a leading zero; one that takes a number too wide for its field.
 pub fn read_call(s: &[u8], at: usize) -> ReadCall
     ensures { λ r. ⌜ CallRead (now (s .entry)) at r ⌝ }
@@ -63,7 +63,7 @@ pub fn read_call(s: &[u8], at: usize) -> ReadCall
     take_call(s, at)
 }
 
-// The header whose line stands at `at`, line feed and all.
+// The header whose line stands at `at`, with its line feed.
 // Ruled out: one that takes upper-case digits; one that takes 15 of them.
 pub fn read_header(s: &[u8], at: usize) -> ReadHeader
     ensures { λ r. ⌜ HeaderRead (now (s .entry)) at r ⌝ }

@@ -1,9 +1,9 @@
 // A call's line.
 ghost use mathlib.Core.Path.{_≡_};
-ghost use Prim.Native.Nat.{ℕ};
+ghost use Prim.Native.Nat.{ℕ, _≤_};
 ghost use mathlib.Core.List.{List};
-ghost use lib.ListN.{drop};
-ghost use Rattle.lines.specs.Take.{madeCall, takeCall, seenCall};
+ghost use lib.ListN.{length, drop};
+ghost use Rattle.lines.specs.Take.{madeCall, takeCall, seenCall, callEnd};
 use crate::Call;
 use crate::Number;
 use crate::Place;
@@ -14,6 +14,7 @@ use crate::values::read_values;
 // The call of a reading, a letter and a ticket, whose line ends at `next`.
 fn call_of(reading: u64, letter: u8, generation: u64, probe: bool, next: usize) -> ReadCall
     ensures { λ r. ⌜ ((s : List ℕ) → seenCall s r ≡ madeCall reading letter generation probe (drop next s)) ⌝ }
+    ensures { λ r. ⌜ callEnd r ≤ next ⌝ }
 {
     match letter {
         b'A' => ReadCall::Is(Call::Admit(reading), next),
@@ -28,6 +29,7 @@ fn call_of(reading: u64, letter: u8, generation: u64, probe: bool, next: usize) 
 // The call at `at`: its reading, a space, its letter and what follows that.
 pub(crate) fn take_call(s: &[u8], at: usize) -> ReadCall
     ensures { λ r. ⌜ seenCall (now (s .entry)) r ≡ takeCall (drop at (now (s .entry))) ⌝ }
+    ensures { λ r. ⌜ callEnd r ≤ length (now (s .entry)) ⌝ }
 {
     let number = read_decimal(s, at, 0xffff_ffff_ffff_ffff);
     let Number::Value { value, next } = number else {

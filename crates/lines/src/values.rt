@@ -2,7 +2,7 @@
 ghost use mathlib.Core.Path.{_≡_};
 ghost use Prim.Native.Nat.{_≤_};
 ghost use lib.ListN.{length, take, drop};
-ghost use Rattle.lines.specs.Take.{limitsOf, takeField, takeRest, seen, seenAll};
+ghost use Rattle.lines.specs.Take.{limitsOf, takeField, takeRest, seen, seenAll, placeEnd};
 use crate::Limits;
 use crate::Number;
 use crate::Place;
@@ -25,7 +25,7 @@ fn read_field(s: &[u8], at: usize, limit: u64) -> Number
     read_decimal(s, at + 1, limit)
 }
 
-// The limits of the fields behind a letter. What no line begins with has those of a ticket.
+// The limits of the fields behind a letter; an unknown letter gets those of a ticket, and is refused after them.
 fn limits_of(letter: u8) -> Limits
     ensures { λ r. ⌜ (r .count ≤ 6) × (length (limitsOf letter) ≡ r .count) × (take (r .count) (r .of) ≡ limitsOf letter) ⌝ }
 {
@@ -63,6 +63,7 @@ fn limits_of(letter: u8) -> Limits
 pub(crate) fn read_values(s: &[u8], at: usize, letter: u8, out: &mut [u64]) -> Place
     requires { ⌜ 6 ≤ length (now out) ⌝ }
     ensures { λ r. ⌜ seenAll (now (s .entry)) (take (length (limitsOf letter)) (now (out .exit))) r ≡ takeRest (limitsOf letter) (drop at (now (s .entry))) ⌝ }
+    ensures { λ r. ⌜ placeEnd r ≤ length (now (s .entry)) ⌝ }
 {
     let limits = limits_of(letter);
     let n = limits.count;

@@ -1,14 +1,11 @@
--- A run is its turns one by one, a run that is not ended can be gone on with, and what a turn leaves is within its bounds. Assumes nothing.
+-- A run is its turns one by one, a run that is not ended can be gone on with, and a new wait and what a turn leaves are within their bounds. Assumes nothing.
 use Prim.Native.Nat.{ℕ, suc, _+_, _-_, _≤_, max}
 use native.Mathlib.Omega.{arith}
 use mathlib.Core.Path.{_≡_, refl, sym, ap, ap₂, _∙_}
 use mathlib.Core.Bool.{Bool, true, false, not, _&&_, _||_, false≢true}
 use mathlib.Core.List.{List, [], _∷_, _++_}
 use lib.Dec.{eqb, leb}
-use Rattle.error.specs.Choice.{if_then_else_}
 use Rattle.error.proofs.Choice.{if-cases}
-use Rattle.error.specs.declared.Refusal.{Refusal}
-use Rattle.error.specs.declared.Refusal.the-variants as Refusal·is
 use Rattle.wait.specs.declared.Wait.{Wait}
 use Rattle.wait.specs.declared.Observed.{Observed}
 use Rattle.wait.specs.declared.Move.{Move}
@@ -19,12 +16,12 @@ use Rattle.wait.specs.declared.Turning.{Turning}
 use Rattle.wait.specs.declared.Ran.{Ran}
 use Rattle.wait.specs.declared.Ran.the-variants as Ran·is
 use Rattle.wait.specs.declared.Running.{Running}
-use Rattle.wait.specs.Turns.{isHolding, hasEnded, turnInBounds, waitInBounds, remaining, exceeds, usedUp, withZeros, naps, retriesZero, retries}
+use Rattle.wait.specs.Turns.{isHolding, hasEnded, isTime, newWait, turnInBounds, waitInBounds, remaining, exceeds, usedUp, withZeros, naps, retriesZero, retries}
 use Rattle.wait.specs.Keep.{isKnown, tested, postponed, napOf, checks, grants, moves, leaves, turning, turned}
 use Rattle.wait.specs.Run.{running, counted, standing, onward, steps}
-use Rattle.wait.proofs.Limits.{times, bounded, →bounded}
+use Rattle.wait.proofs.Limits.{time-le, times, bounded, →bounded}
 use Rattle.wait.proofs.Steps.{grant-bounded}
-use Rattle.wait.proofs.Walks.{counting}
+use Rattle.wait.proofs.Walks.{in-order, counting}
 
 -- ---- one by one
 
@@ -37,12 +34,6 @@ taking (Turned·is.Refused r) w more = running (Ran·is.Refused r) 0 w
 abbrev taken : Turning → (Wait → Running) → Running
 taken x more = taking (x .answer) (x .wait) more
 
-pick-map : {A B : Type 0} (h : A → B) (f : Refusal → A) (a : A) (x y : Bool)
-    → h (if x then f Refusal·is.Turn else if y then f Refusal·is.Time else a) ≡ (if x then h (f Refusal·is.Turn) else if y then h (f Refusal·is.Time) else h a)
-pick-map h f a true y = refl
-pick-map h f a false true = refl
-pick-map h f a false false = refl
-
 leaves-onward : (m : Move) (more : Wait → Running) → taken (leaves m) more ≡ onward m more
 leaves-onward (Goes act w) more = refl
 leaves-onward (Ends e) more = refl
@@ -52,7 +43,7 @@ pub by-turns : (t : Observed) (ts : List Observed) (w : Wait) → steps (t ∷ t
 unfolding steps turned
 by-turns t ts w =
     ap (λ (x : Running). tested (λ r. running (Ran·is.Refused r) 0 w) x w t) (sym (leaves-onward (moves w t) (λ v. steps ts v)))
-    ∙ sym (pick-map (λ (x : Turning). taken x (λ v. steps ts v)) (λ r. turning (Turned·is.Refused r) w) (leaves (moves w t)) (hasEnded w || not (isKnown (t .kind))) (not (waitInBounds w && turnInBounds t)))
+    ∙ sym (in-order (λ (x : Turning). taken x (λ v. steps ts v)) (λ r. turning (Turned·is.Refused r) w) (leaves (moves w t)) (hasEnded w || not (isKnown (t .kind))) (not (waitInBounds w && turnInBounds t)))
 
 -- ---- a run that is not ended, and then another, is one run
 
@@ -88,7 +79,12 @@ two-runs [] us w n v e = nothing-first us w n v e
 two-runs (t ∷ ts) us w n v e =
     by-turns t (ts ++ us) w ∙ join-one (turned w t .answer) (turned w t .wait) ts us n v (λ x k h. two-runs ts us x k v h) (sym (by-turns t ts w) ∙ e)
 
--- ---- what a turn leaves is within its bounds
+-- ---- a new wait and what a turn leaves are within their bounds
+
+pub new-kept : (clock : ℕ) (limited : Bool) (timeout : ℕ) → isTime clock ≡ true → isTime timeout ≡ true → waitInBounds (newWait clock limited timeout) ≡ true
+new-kept clock true timeout a b =
+    →bounded _ (record { deadline = omega (arith, time-le clock a, time-le timeout b); seen = omega arith; due = omega arith })
+new-kept clock false timeout a b = →bounded _ (record { deadline = omega arith; seen = omega arith; due = omega arith })
 
 abbrev pub boundedMove : Move → Bool
 boundedMove (Goes act v) = waitInBounds v

@@ -14,7 +14,7 @@ use Rattle.wait.specs.declared.Dropped.the-variants.{GiveBack}
 use Rattle.wait.specs.declared.Move.{Move}
 use Rattle.wait.specs.declared.Move.the-variants.{Goes, Ends}
 use Rattle.wait.proofs.Limits.{times, bounded, →bounded}
-use Rattle.wait.specs.Locked.{budget}
+use Rattle.wait.specs.Budget.{budget}
 use Rattle.wait.specs.Turns.{endedWait, isHolding, hasEnded, turnInBounds, waitInBounds, Budget, unlimited, left, remaining, exceeds, usedUp, smaller, withZeros, sleeping, naps, retriesZero, retries}
 use Rattle.wait.specs.Keep.{holding, postponed, napOf, holdsOn, checks, grants}
 use Rattle.wait.specs.Run.{dropping, dropped}

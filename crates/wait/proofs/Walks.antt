@@ -8,7 +8,6 @@ use lib.Dec.{eqb}
 use lib.ListN.{length, take, drop, getD, length-drop}
 use lib.Seq.{take-nil, drop-drop, getD-drop}
 use borrow.Author.Tests.{eq-eqb, ne-eqb}
-use Rattle.error.specs.Choice.{if_then_else_}
 use Rattle.error.specs.declared.Refusal.{Refusal}
 use Rattle.error.specs.declared.Refusal.the-variants as Refusal·is
 use Rattle.error.proofs.Choice.{and-split}
@@ -24,40 +23,30 @@ use Rattle.wait.specs.declared.Turned.the-variants as Turned·is
 use Rattle.wait.specs.declared.Ran.the-variants as Ran·is
 use Rattle.wait.specs.declared.Running.{Running}
 use Rattle.wait.specs.Turns.{endedWait, hasEnded, turnInBounds, waitInBounds}
-use Rattle.wait.specs.Keep.{turning, leaves, isKnown, tested, moves, turned}
+use Rattle.wait.specs.Keep.{turning, leaves, isKnown, inOrder, tested, moves, turned}
 use Rattle.wait.specs.Run.{running, counted, standing, steps, turnOf, turnsOf, runs}
 
 -- ---- the tests of a turn
+
+-- a function of the answer may be taken of each answer beforehand
+pub in-order : {A B : Type 0} (h : A → B) (f : Refusal → A) (a : A) (x y : Bool) → h (inOrder x y f a) ≡ inOrder x y (λ r. h (f r)) (h a)
+in-order h f a true y = refl
+in-order h f a false true = refl
+in-order h f a false false = refl
+
+-- what a verdict comes to, and that it is what the tests come to
+abbrev by : {A : Type 0} → (Refusal → A) → A → Tested → A
+by f a Passes = a
+by f a (Fails r) = f r
+
+by-verdict : {A : Type 0} (f : Refusal → A) (a : A) (w : Wait) (t : Observed) (v : Tested) → v ≡ tested Fails Passes w t → by f a v ≡ tested f a w t
+by-verdict f a w t v e = ap (by f a) e ∙ in-order (by f a) Fails Passes (hasEnded w || not (isKnown (t .kind))) (not (waitInBounds w && turnInBounds t))
 
 abbrev passed : Tested → Bool
 passed Passes = true
 passed (Fails r) = false
 
-abbrev why : Tested → Refusal
-why Passes = Refusal·is.Turn
-why (Fails r) = r
-
-module _ {A : Type 0} (f : Refusal → A) (a : A) where
-  pick-fails : (x y : Bool) (r : Refusal) → Fails r ≡ (if x then Fails Refusal·is.Turn else if y then Fails Refusal·is.Time else Passes)
-      → f r ≡ (if x then f Refusal·is.Turn else if y then f Refusal·is.Time else a)
-  pick-fails true y r e = ap (λ (v : Tested). f (why v)) e
-  pick-fails false true r e = ap (λ (v : Tested). f (why v)) e
-  pick-fails false false r e = absurd (false≢true (ap passed e))
-
-  pick-passes : (x y : Bool) → Passes ≡ (if x then Fails Refusal·is.Turn else if y then Fails Refusal·is.Time else Passes)
-      → (if x then f Refusal·is.Turn else if y then f Refusal·is.Time else a) ≡ a
-  pick-passes true y e = absurd (false≢true (sym (ap passed e)))
-  pick-passes false true e = absurd (false≢true (sym (ap passed e)))
-  pick-passes false false e = refl
-
-module _ {A : Type 0} (f : Refusal → A) (a : A) (w : Wait) (t : Observed) where
-  pub tested-fails : (r : Refusal) → Fails r ≡ tested Fails Passes w t → f r ≡ tested f a w t
-  tested-fails r e = pick-fails f a (hasEnded w || not (isKnown (t .kind))) (not (waitInBounds w && turnInBounds t)) r e
-
-  pub tested-passes : Passes ≡ tested Fails Passes w t → tested f a w t ≡ a
-  tested-passes e = pick-passes f a (hasEnded w || not (isKnown (t .kind))) (not (waitInBounds w && turnInBounds t)) e
-
-in-bounds : (x y : Bool) → Passes ≡ (if x then Fails Refusal·is.Turn else if not y then Fails Refusal·is.Time else Passes) → y ≡ true
+in-bounds : (x y : Bool) → Passes ≡ inOrder x (not y) Fails Passes → y ≡ true
 in-bounds x true e = refl
 in-bounds true false e = absurd (false≢true (sym (ap passed e)))
 in-bounds false false e = absurd (false≢true (sym (ap passed e)))
@@ -73,11 +62,11 @@ passes-bounds w t e =
 module _ (w : Wait) (t : Observed) where
   pub turn-refused : (r : Refusal) → Fails r ≡ tested Fails Passes w t → turning (Turned·is.Refused r) w ≡ turned w t
   unfolding turned
-  turn-refused r e = tested-fails (λ r. turning (Turned·is.Refused r) w) (leaves (moves w t)) w t r e
+  turn-refused r e = by-verdict (λ r. turning (Turned·is.Refused r) w) (leaves (moves w t)) w t (Fails r) e
 
   pub turn-passed : (m : Move) → Passes ≡ tested Fails Passes w t → m ≡ moves w t → leaves m ≡ turned w t
   unfolding turned
-  turn-passed m p e = ap leaves e ∙ sym (tested-passes (λ r. turning (Turned·is.Refused r) w) (leaves (moves w t)) w t p)
+  turn-passed m p e = ap leaves e ∙ by-verdict (λ r. turning (Turned·is.Refused r) w) (leaves (moves w t)) w t Passes p
 
 -- ---- a run
 
@@ -109,16 +98,16 @@ stops-here n ts w e = rw e (ap (λ (k : ℕ). running (standing w) k w) (omega a
 module _ (n : ℕ) (w : Wait) (t : Observed) (ts : List Observed) where
   pub step-refused : (r : Refusal) → Fails r ≡ tested Fails Passes w t → counting n (steps (t ∷ ts) w) ≡ running (Ran·is.Refused r) n w
   unfolding steps
-  step-refused r e = ap (counting n) (sym (tested-fails (λ r. running (Ran·is.Refused r) 0 w) _ w t r e)) ∙ ap (λ (k : ℕ). running (Ran·is.Refused r) k w) (omega arith)
+  step-refused r e = ap (counting n) (sym (by-verdict (λ r. running (Ran·is.Refused r) 0 w) _ w t (Fails r) e)) ∙ ap (λ (k : ℕ). running (Ran·is.Refused r) k w) (omega arith)
 
   pub step-goes : (act : Act) (next : Wait) → Passes ≡ tested Fails Passes w t → Goes act next ≡ moves w t
       → counting n (steps (t ∷ ts) w) ≡ counting (n + 1) (steps ts next)
   unfolding steps
-  step-goes act next p e = ap (counting n) (tested-passes (λ r. running (Ran·is.Refused r) 0 w) _ w t p) ∙ rw (← e) (ap (λ (k : ℕ). running (steps ts next .answer) k (steps ts next .wait)) (omega arith))
+  step-goes act next p e = ap (counting n) (sym (by-verdict (λ r. running (Ran·is.Refused r) 0 w) _ w t Passes p)) ∙ rw (← e) (ap (λ (k : ℕ). running (steps ts next .answer) k (steps ts next .wait)) (omega arith))
 
   pub step-ends : (e : Ending) → Passes ≡ tested Fails Passes w t → Ends e ≡ moves w t → counting n (steps (t ∷ ts) w) ≡ running (Ran·is.Ends e) (n + 1) endedWait
   unfolding steps
-  step-ends e p q = ap (counting n) (tested-passes (λ r. running (Ran·is.Refused r) 0 w) _ w t p) ∙ rw (← q) refl
+  step-ends e p q = ap (counting n) (sym (by-verdict (λ r. running (Ran·is.Refused r) 0 w) _ w t Passes p)) ∙ rw (← q) refl
 
 pub run-storage : (w : Wait) (xs : List ℕ) (limit : ℕ) → (length xs % 8 ≡ 0 → ⊥) → running (Ran·is.Refused Refusal·is.Storage) 0 w ≡ runs w xs limit
 unfolding runs

@@ -1,7 +1,6 @@
 -- "Waiting answers": a wait that keeps its grant (`Across::Keep`). Definitions only.
 use Prim.Native.Nat.{ℕ, _+_, _-_, max}
-use mathlib.Core.Bool.{Bool, true, false, not, _&&_, _||_}
-use mathlib.Core.List.{List, [], _∷_}
+use mathlib.Core.Bool.{Bool, not, _&&_, _||_}
 use lib.Dec.{eqb, leb}
 use Rattle.error.specs.Choice.{if_then_else_}
 use Rattle.error.specs.Told.{Told}
@@ -58,6 +57,10 @@ moves w t =
 
 -- ---- the entry point of a turn: 11, then 1
 
+-- "Tested in the order … 11, 1": their causes, then `answer`
+abbrev pub inOrder : {A : Type 0} → Bool → Bool → (Refusal → A) → A → A
+inOrder unknown beyond refusal answer = if unknown then refusal Refusal·is.Turn else if beyond then refusal Refusal·is.Time else answer
+
 -- "reply kind not 1 to 3 (held checks too), or a turn … handed an ended wait"
 abbrev pub isKnown : ℕ → Bool
 isKnown k = eqb k 1 || (eqb k 2 || eqb k 3)
@@ -69,13 +72,14 @@ abbrev pub leaves : Move → Turning
 leaves (Goes act w) = turning (Turned·is.Next act) w
 leaves (Ends e) = turning (Turned·is.Ends e) endedWait
 
--- a turn that is refused leaves the wait; `answer` says what another comes to
+-- a turn, and a wait alone; `answer` says what one that is not refused comes to
 abbrev pub tested : {A : Type 0} → (Refusal → A) → A → Wait → Observed → A
-tested refusal answer w t =
-    if hasEnded w || not (isKnown (t .kind)) then refusal Refusal·is.Turn
-    else if not (waitInBounds w && turnInBounds t) then refusal Refusal·is.Time
-    else answer
+tested refusal answer w t = inOrder (hasEnded w || not (isKnown (t .kind))) (not (waitInBounds w && turnInBounds t)) refusal answer
 
+abbrev pub testedAlone : {A : Type 0} → (Refusal → A) → A → Wait → A
+testedAlone refusal answer w = inOrder (hasEnded w) (not (waitInBounds w)) refusal answer
+
+-- a turn that is refused leaves the wait
 unfoldable pub turned : Wait → Observed → Turning
 turned w t = tested (λ r. turning (Turned·is.Refused r) w) (leaves (moves w t)) w t
 

@@ -3,4 +3,4 @@ pub mod Answers
 pub mod Turns
 pub mod Keep
 pub mod Run
-pub mod Locked
+pub mod Budget

@@ -1,6 +1,6 @@
 -- "Each run of turns has a limit and reports how many turns it took, which equals the steps of these rules." Definitions only.
-use Prim.Native.Nat.{ℕ, zero, suc, _+_, _/_, _%_}
-use mathlib.Core.Bool.{Bool, true, false, not}
+use Prim.Native.Nat.{ℕ, zero, suc, _/_, _%_}
+use mathlib.Core.Bool.{Bool}
 use mathlib.Core.List.{List, [], _∷_}
 use lib.Dec.{eqb}
 use lib.ListN.{length, take, drop, getD}
@@ -18,8 +18,8 @@ use Rattle.wait.specs.declared.Dropped.{Dropped}
 use Rattle.wait.specs.declared.Dropped.the-variants as Dropped·is
 use Rattle.wait.specs.declared.Dropping.{Dropping}
 use Rattle.wait.specs.Answers.{ranTold, droppedTold}
-use Rattle.wait.specs.Turns.{endedWait, isHolding, hasEnded, waitInBounds}
-use Rattle.wait.specs.Keep.{After, after, moves, tested}
+use Rattle.wait.specs.Turns.{endedWait, isHolding}
+use Rattle.wait.specs.Keep.{After, after, moves, tested, testedAlone}
 
 -- what a run comes to: its answer, the turns that it took, and the wait reached
 abbrev pub running : Ran → ℕ → Wait → Running
@@ -33,10 +33,7 @@ counted r = running (r .answer) (suc (r .taken)) (r .wait)
 
 -- no turn is left, or the limit is reached: 11 and 1 for the wait alone, else 10
 unfoldable pub standing : Wait → Ran
-standing w =
-    if hasEnded w then Ran·is.Refused Refusal·is.Turn
-    else if not (waitInBounds w) then Ran·is.Refused Refusal·is.Time
-    else Ran·is.Unfinished
+standing w = testedAlone Ran·is.Refused Ran·is.Unfinished w
 
 abbrev pub onward : Move → (Wait → Running) → Running
 onward (Goes act w) more = counted (more w)
@@ -48,7 +45,10 @@ steps (t ∷ ts) w = tested (λ r. running (Ran·is.Refused r) 0 w) (onward (mov
 
 -- ---- the entry point: "turns not a multiple of 8" is 3; then as many turns as the limit says
 
--- "A turn reads eight 64-bit numbers: clock in nanoseconds, resume epoch before and after, reply kind, reply duration, pause, total
+abbrev pub wholeTurns : List ℕ → Bool
+wholeTurns xs = eqb (length xs % 8) 0
+
+-- "A turn reads eight 64-bit numbers: clock in nanoseconds, resume epoch before and after, reply kind …, reply duration, pause, total
 -- postponement before and after."
 abbrev pub turnOf : List ℕ → Observed
 turnOf xs =
@@ -70,7 +70,7 @@ turnsOf (suc k) xs = turnOf xs ∷ turnsOf k (drop 8 xs)
 
 unfoldable pub runs : Wait → List ℕ → ℕ → Running
 runs w xs limit =
-    if eqb (length xs % 8) 0 then steps (take limit (turnsOf (length xs / 8) xs)) w
+    if wholeTurns xs then steps (take limit (turnsOf (length xs / 8) xs)) w
     else running (Ran·is.Refused Refusal·is.Storage) 0 w
 
 -- "turns taken, wait reached" beside what was told
@@ -88,10 +88,7 @@ abbrev pub dropping : Dropped → Wait → Dropping
 dropping answer w = record { answer = answer; wait = w }
 
 unfoldable pub dropped : Wait → Dropping
-dropped w =
-    if hasEnded w then dropping (Dropped·is.Refused Refusal·is.Turn) w
-    else if not (waitInBounds w) then dropping (Dropped·is.Refused Refusal·is.Time) w
-    else dropping (Dropped·is.GiveBack (if isHolding w then 1 else 0)) endedWait
+dropped w = testedAlone (λ r. dropping (Dropped·is.Refused r) w) (dropping (Dropped·is.GiveBack (if isHolding w then 1 else 0)) endedWait) w
 
 abbrev pub tellDrop : Dropping → After
 tellDrop r = after (droppedTold (r .answer)) (r .wait)

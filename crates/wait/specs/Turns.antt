@@ -1,10 +1,8 @@
 -- "Waiting answers": what every manner of waiting shares: bounds, what remains, and retries. Definitions only.
 use Prim.Native.Nat.{ℕ, _+_, _-_, _^_, min}
 use mathlib.Core.Bool.{Bool, true, false, not, _&&_, _||_}
-use mathlib.Core.List.{List, [], _∷_}
 use lib.Dec.{eqb, leb, ltb}
 use Rattle.error.specs.Choice.{if_then_else_}
-use Rattle.error.specs.Told.{Told, tell, refused}
 use Rattle.error.specs.declared.Refusal.the-variants as Refusal·is
 use Rattle.wait.specs.declared.Wait.{Wait}
 use Rattle.wait.specs.declared.Observed.{Observed}
@@ -13,7 +11,8 @@ use Rattle.wait.specs.declared.Act.the-variants.{Sleep, SleepUnlessResum
 use Rattle.wait.specs.declared.Ending.the-variants.{Deadline}
 use Rattle.wait.specs.declared.Move.{Move}
 use Rattle.wait.specs.declared.Move.the-variants.{Goes, Ends}
-use Rattle.wait.specs.Answers.{waitValues}
+use Rattle.wait.specs.declared.Started.{Started}
+use Rattle.wait.specs.declared.Started.the-variants as Started·is
 
 -- an ended wait keeps nothing
 abbrev pub endedWait : Wait
@@ -46,9 +45,9 @@ abbrev pub newWait : ℕ → Bool → ℕ → Wait
 newWait clock true timeout = looking 1 (clock + timeout)
 newWait clock false timeout = looking 0 0
 
-unfoldable pub started : ℕ → Bool → ℕ → Told
+unfoldable pub started : ℕ → Bool → ℕ → Started
 started clock limited timeout =
-    if isTime clock && isTime timeout then tell 0 (waitValues (newWait clock limited timeout)) else refused Refusal·is.Time
+    if isTime clock && isTime timeout then Started·is.Made (newWait clock limited timeout) else Started·is.Refused Refusal·is.Time
 
 -- ---- "Remaining = … (the deadline) − clock, not below 0; no timeout means unlimited."
 

@@ -29,7 +29,7 @@ fn is_known(kind: u64) -> bool
     kind == 3
 }
 
-fn is_time(ns: u64) -> bool
+pub(crate) fn is_time(ns: u64) -> bool
     ensures { λ r. ⌜ r ≡ isTime ns ⌝ }
 {
     ns <= 0x4000_0000_0000_0000

@@ -19,6 +19,7 @@ use crate::Turned;
 use crate::Turning;
 use crate::Wait;
 use crate::bounds::has_ended;
+use crate::bounds::is_time;
 use crate::bounds::test;
 use crate::bounds::wait_in_bounds;
 use crate::keep::moves;
@@ -55,12 +56,12 @@ fn looking(limited: u64, deadline: u64) -> Wait
 // A wait from this clock on, with a timeout or without.
 // Ruled out: a deadline that wraps; one that leaves a time over its bound to the first turn.
 pub fn start(clock: u64, limited: bool, timeout: u64) -> Started
-    ensures { λ r. ⌜ startedTold r ≡ started clock limited timeout ⌝ }
+    ensures { λ r. ⌜ startedTold r ≡ startedTold (started clock limited timeout) ⌝ }
 {
-    if clock > 0x4000_0000_0000_0000 {
+    if !is_time(clock) {
         return Started::Refused(Refusal::Time);
     }
-    if timeout > 0x4000_0000_0000_0000 {
+    if !is_time(timeout) {
         return Started::Refused(Refusal::Time);
     }
     if !limited {
@@ -111,7 +112,7 @@ fn turn_at(turns: &[u64], at: usize) -> Observed
     }
 }
 
-// What a run is told that has no turn to take.
+// What a run is told when no turn is left or its limit is reached.
 fn stand(wait: Wait) -> Ran
     ensures { λ r. ⌜ r ≡ standing wait ⌝ }
 {
@@ -179,7 +180,7 @@ pub fn run(wait: Wait, turns: &[u64], limit: u64) -> Running
     }
 }
 
-// Ends a wait before its time (`Drop` of the Rust's `Release`): a held grant is to be given back.
+// Ends a wait before it has ended (`Drop` of the Rust's `Release`): a held grant is to be given back.
 // Ruled out: one that keeps a held grant; one that gives back for a wait that holds none.
 pub fn drop_wait(wait: Wait) -> Dropping
     ensures { λ r. ⌜ tellDrop r ≡ tellDrop (dropped wait) ⌝ }

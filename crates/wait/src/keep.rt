@@ -2,7 +2,7 @@
 ghost use mathlib.Core.Path.{_≡_};
 ghost use mathlib.Core.Bool.{true};
 ghost use Rattle.wait.specs.Keep as Keep;
-ghost use Rattle.wait.specs.Keep.{checks, grants, holdsOn, tested};
+ghost use Rattle.wait.specs.Keep.{checks, grants, holdsOn};
 ghost use Rattle.wait.specs.Turns.{turnInBounds, waitInBounds};
 use crate::Act;
 use crate::Ending;

@@ -23,7 +23,7 @@ pub struct Wait {
     pub seen: u64,
     // when the grant may be used
     pub due: u64,
-    // retries of 0 in a row, at most 5
+    // retries of 0 in a row, counted to 5
     pub zeros: u64,
 }
 

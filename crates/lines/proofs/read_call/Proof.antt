@@ -8,7 +8,7 @@ take-call-requires : tie.Need-take-call-requires
 take-call-requires c κs = search needs
 
 returns : tie.Need-returns
-returns c = call-read (c .before .before .args .s .now) (c .before .before .args .at) (c .take-call .result) (c .take-call .ensures)
+returns c = call-read (c .before .before .args .s .now) (c .before .before .args .at) (c .take-call .result) (c .take-call .ensures .0) (c .take-call .ensures .1)
 
 pub read-call-spec : {M : Type 1} → statement M
 read-call-spec = tie.close (tie.spec take-call-requires returns)

@@ -62,7 +62,7 @@ enum-told-2 c = search needs
 
 -- the header that was read, and the breaker that was made of it
 is : (c : tie.After-known-told) → HeaderFits (c .before .read .given .0 .0) × (c .before .before .before .before .before .before .before .args .s .now ≡ printHeader (c .before .read .given .0 .0) ++ drop (c .before .read .given .0 .1 .0) (c .before .before .before .before .before .before .before .args .s .now))
-is c = rw (c .before .read .given .1) at (c .before .before .before .read-header .ensures)
+is c = let f = rw (c .before .read .given .1) at (c .before .before .before .read-header .ensures) in (f .0, f .1)
 
 made : (c : tie.After-enum-told2) → IsMade (c .before .before .before .before .before .before .before .before .before .before .read .given .0 .0) (c .before .before .before .before .before .build .result .breaker) (c .before .before .before .before .before .build .last .1 .0)
 made c =

@@ -63,7 +63,7 @@ step-requires c κs = search needs
 
 -- the call that was read, and what it left
 is : (c : tie.After-known-told Inv-loop μ-loop) → CallFits (c .before .read .given .0 .0) × (drop (c .before .before .before .before .before .loop .next) (c .before .before .before .before .before .before .before .before .before .args .s .now) ≡ printCall (c .before .read .given .0 .0) ++ drop (c .before .read .given .0 .1 .0) (c .before .before .before .before .before .before .before .before .before .args .s .now))
-is c = rw (c .before .read .given .1) at (c .before .before .before .read-call .ensures)
+is c = let f = rw (c .before .read .given .1) at (c .before .before .before .read-call .ensures) in (f .0, f .1)
 
 fewer : (c : tie.After-known-told Inv-loop μ-loop) → length (drop (c .before .read .given .0 .1 .0) (c .before .before .before .before .before .before .before .before .before .args .s .now)) + 4 ≤ length (drop (c .before .before .before .before .before .loop .next) (c .before .before .before .before .before .before .before .before .before .args .s .now))
 fewer c = call-long (c .before .read .given .0 .0) _ _ (is c .1)

@@ -94,18 +94,18 @@ unfolding limitsOf
 cast-t61 c = omega (arith, limited _ (c .before .before .before .before .before .before .args .v .now) 87 4 (c .before .before .before .before .before .match .keys3) (c .before .before .before .before .before .before .pre) (omega arith) refl)
 
 returns : tie.Need-returns
-returns c = rw (c .before .before .before .before .match .keys1) (λ s. refl)
+returns c = (rw (c .before .before .before .before .match .keys1) (λ s. refl), omega arith)
 
 returns-2 : tie.Need-returns-2
-returns-2 c = rw (c .before .before .before .before .before .before .match .keys2) (λ s. refl)
+returns-2 c = (rw (c .before .before .before .before .before .before .match .keys2) (λ s. refl), omega arith)
 
 returns-3 : tie.Need-returns-3
-returns-3 c = rw (c .before .before .before .before .before .match .keys3) (λ s. refl)
+returns-3 c = (rw (c .before .before .before .before .before .match .keys3) (λ s. refl), omega arith)
 
 returns-4 : tie.Need-returns-4
 returns-4 c =
     let m = c .match .rest in
-    rw (ne-eqb _ _ (m .0 .0 .1), ne-eqb _ _ (m .0 .1), ne-eqb _ _ (m .1)) (λ s. refl)
+    (rw (ne-eqb _ _ (m .0 .0 .1), ne-eqb _ _ (m .0 .1), ne-eqb _ _ (m .1)) (λ s. refl), omega arith)
 
 pub header-of-spec : {M : Type 1} → statement M
 header-of-spec =

@@ -1,6 +1,7 @@
 -- `lines::heads::take_header` meets its contract. Assumes nothing.
 use Prim.Native.Nat.{_+_}
 use mathlib.Core.Path.{_≡_, sym, ap, _∙_}
+use native.Mathlib.Omega.{arith}
 use borrow.Author.Needs.{needs}
 use lib.ListN.{length, take, drop, getD, drop-of-length-le}
 use Rattle.lines.specs.Take.{limitsOf, takeRest, takeHeader, seenAll, got, none}
@@ -12,7 +13,7 @@ use Rattle.lines.proofs.heads.take_header.Tie as tie
 
 returns : tie.Need-returns
 unfolding takeHeader
-returns c = rw (drop-of-length-le (c .before .before .args .s .now) (c .if1 .taken))
+returns c = (rw (drop-of-length-le (c .before .before .args .s .now) (c .if1 .taken)), omega arith)
 
 shared-slice-read-letter : tie.Need-shared-slice-read-letter
 shared-slice-read-letter c = search needs
@@ -37,15 +38,15 @@ unfolding takeHeader
 returns-2 c =
     let s = c .before .before .before .before .before .before .before .before .args .s .now in
     let k = getD s (c .before .before .before .before .before .before .before .before .args .at) 0 in
-    let e : takeRest (limitsOf k) (drop (c .before .before .before .before .before .before .before .before .args .at + 1) s) ≡ none = sym (c .before .before .before .read-values .ensures) ∙ ap (seenAll s (take (length (limitsOf k)) (c .before .before .before .read-values .last .1 .1 .1 .0))) (c .enum-told .given .1) in
-    rw (front s (c .before .before .before .before .before .before .before .before .args .at) (c .before .before .before .before .before .before .if1 .left), e)
+    let e : takeRest (limitsOf k) (drop (c .before .before .before .before .before .before .before .before .args .at + 1) s) ≡ none = sym (c .before .before .before .read-values .ensures .0) ∙ ap (seenAll s (take (length (limitsOf k)) (c .before .before .before .read-values .last .1 .1 .1 .0))) (c .enum-told .given .1) in
+    (rw (front s (c .before .before .before .before .before .before .before .before .args .at) (c .before .before .before .before .before .before .if1 .left), e), omega arith)
 
 -- the values that were taken
 taken : (c : tie.After-known-told) → let s = c .before .before .before .before .before .before .before .before .before .args .s .now in let k = getD s (c .before .before .before .before .before .before .before .before .before .args .at) 0 in
     takeRest (limitsOf k) (drop (c .before .before .before .before .before .before .before .before .before .args .at + 1) s) ≡ got (take (length (limitsOf k)) (c .before .before .before .before .read-values .last .1 .1 .1 .0)) (drop (c .before .place .given .0 .0) s)
 taken c =
     let s = c .before .before .before .before .before .before .before .before .before .args .s .now in
-    sym (c .before .before .before .before .read-values .ensures) ∙ ap (seenAll s (take (length (limitsOf (getD s (c .before .before .before .before .before .before .before .before .before .args .at) 0))) (c .before .before .before .before .read-values .last .1 .1 .1 .0))) (c .before .place .given .1)
+    sym (c .before .before .before .before .read-values .ensures .0) ∙ ap (seenAll s (take (length (limitsOf (getD s (c .before .before .before .before .before .before .before .before .before .args .at) 0))) (c .before .before .before .before .read-values .last .1 .1 .1 .0))) (c .before .place .given .1)
 
 header-of-requires : tie.Need-header-of-requires
 header-of-requires c κs = rest-back _ _ _ _ (taken (c .before)) .0
@@ -55,7 +56,7 @@ unfolding takeHeader
 returns-3 c =
     let s = c .before .before .before .before .before .before .before .before .before .before .before .args .s .now in
     let k = getD s (c .before .before .before .before .before .before .before .before .before .before .before .args .at) 0 in
-    rw (front s (c .before .before .before .before .before .before .before .before .before .before .before .args .at) (c .before .before .before .before .before .before .before .before .before .if1 .left), taken (c .before .before), made-header k (c .before .before .before .before .before .before .read-values .last .1 .1 .1 .0) (drop (c .before .before .before .place .given .0 .0) s)) (c .header-of .ensures s)
+    (rw (front s (c .before .before .before .before .before .before .before .before .before .before .before .args .at) (c .before .before .before .before .before .before .before .before .before .if1 .left), taken (c .before .before), made-header k (c .before .before .before .before .before .before .read-values .last .1 .1 .1 .0) (drop (c .before .before .before .place .given .0 .0) s)) (c .header-of .ensures .0 s), omega (arith, rw (c .before .before .before .place .given .1) at (c .before .before .before .before .before .before .read-values .ensures .1)))
 
 pub take-header-spec : {M : Type 1} → statement M
 take-header-spec =

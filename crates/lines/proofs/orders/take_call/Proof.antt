@@ -1,6 +1,7 @@
 -- `lines::orders::take_call` meets its contract. Assumes nothing.
 use Prim.Native.Nat.{_+_}
 use mathlib.Core.Path.{_≡_, sym, ap, _∙_}
+use native.Mathlib.Omega.{arith}
 use borrow.Author.Needs.{needs}
 use borrow.Author.Tests.{eq-eqb, ne-eqb}
 use lib.ListN.{length, take, drop, getD, drop-of-length-le}
@@ -23,7 +24,7 @@ returns : tie.Need-returns
 unfolding takeCall
 returns c =
     let e : takeNumber max64 (drop (c .before .before .before .before .args .at) (c .before .before .before .before .args .s .now)) ≡ none = sym (c .before .before .read-decimal .ensures) ∙ ap (seen (c .before .before .before .before .args .s .now)) (c .enum-told .given .1) in
-    rw e
+    (rw e, omega arith)
 
 -- the reading, where there is one
 reading : (c : tie.After-known-told) → takeNumber max64 (drop (c .before .before .before .before .before .args .at) (c .before .before .before .before .before .args .s .now)) ≡ got (c .before .number .given .0 .0) (drop (c .before .number .given .0 .1 .0) (c .before .before .before .before .before .args .s .now))
@@ -31,7 +32,7 @@ reading c = sym (c .before .before .before .read-decimal .ensures) ∙ ap (seen 
 
 returns-2 : tie.Need-returns-2
 unfolding takeCall takeLetter
-returns-2 c = rw (reading (c .before), drop-of-length-le (c .before .before .before .before .before .before .args .s .now) (c .if1 .taken))
+returns-2 c = (rw (reading (c .before), drop-of-length-le (c .before .before .before .before .before .before .args .s .now) (c .if1 .taken)), omega arith)
 
 shared-slice-read-if2 : tie.Need-shared-slice-read-if2
 shared-slice-read-if2 c = search needs
@@ -39,7 +40,7 @@ shared-slice-read-if2 c = search needs
 returns-3 : tie.Need-returns-3
 unfolding takeCall takeLetter
 returns-3 c =
-    rw (reading (c .before .before .before), front (c .before .before .before .before .before .before .before .before .args .s .now) (c .before .before .before .before .number .given .0 .1 .0) (c .before .before .if1 .left), ne-eqb _ _ (c .if2 .taken))
+    (rw (reading (c .before .before .before), front (c .before .before .before .before .before .before .before .before .args .s .now) (c .before .before .before .before .number .given .0 .1 .0) (c .before .before .if1 .left), ne-eqb _ _ (c .if2 .taken)), omega arith)
 
 add-k : tie.Need-add-k
 add-k c = search needs
@@ -47,7 +48,7 @@ add-k c = search needs
 returns-4 : tie.Need-returns-4
 unfolding takeCall takeLetter takeKind
 returns-4 c =
-    rw (reading (c .before .before .before .before), front (c .before .before .before .before .before .before .before .before .before .args .s .now) (c .before .before .before .before .before .number .given .0 .1 .0) (c .before .before .before .if1 .left), eq-eqb _ _ (c .before .if2 .left), drop-of-length-le (c .before .before .before .before .before .before .before .before .before .args .s .now) (c .if3 .taken))
+    (rw (reading (c .before .before .before .before), front (c .before .before .before .before .before .before .before .before .before .args .s .now) (c .before .before .before .before .before .number .given .0 .1 .0) (c .before .before .before .if1 .left), eq-eqb _ _ (c .before .if2 .left), drop-of-length-le (c .before .before .before .before .before .before .before .before .before .args .s .now) (c .if3 .taken)), omega arith)
 
 shared-slice-read-letter : tie.Need-shared-slice-read-letter
 shared-slice-read-letter c = search needs
@@ -73,8 +74,8 @@ returns-5 c =
     let s = c .before .before .before .before .before .before .before .before .before .before .before .before .before .before .before .args .s .now in
     let n = c .before .before .before .before .before .before .before .before .before .before .before .number .given .0 .1 .0 in
     let L = limitsOf (getD s (n + 1) 0) in
-    let e : takeRest L (drop (n + 1 + 1) s) ≡ none = sym (c .before .before .before .read-values .ensures) ∙ ap (seenAll s (take (length L) (c .before .before .before .read-values .last .1 .1 .1 .0))) (c .enum-told2 .given .1) in
-    rw (reading (c .before .before .before .before .before .before .before .before .before .before), front s n (c .before .before .before .before .before .before .before .before .before .if1 .left), eq-eqb _ _ (c .before .before .before .before .before .before .before .if2 .left), front s (n + 1) (c .before .before .before .before .before .before .if3 .left), e)
+    let e : takeRest L (drop (n + 1 + 1) s) ≡ none = sym (c .before .before .before .read-values .ensures .0) ∙ ap (seenAll s (take (length L) (c .before .before .before .read-values .last .1 .1 .1 .0))) (c .enum-told2 .given .1) in
+    (rw (reading (c .before .before .before .before .before .before .before .before .before .before), front s n (c .before .before .before .before .before .before .before .before .before .if1 .left), eq-eqb _ _ (c .before .before .before .before .before .before .before .if2 .left), front s (n + 1) (c .before .before .before .before .before .before .if3 .left), e), omega arith)
 
 array-read-call-of : tie.Need-array-read-call-of
 array-read-call-of c = search needs
@@ -93,8 +94,8 @@ returns-6 c =
     let k = getD s (n + 1) 0 in
     let v = c .before .before .before .before .before .read-values .last .1 .1 .1 .0 in
     let end = drop (c .before .before .place .given .0 .0) s in
-    let e : takeRest (limitsOf k) (drop (n + 1 + 1) s) ≡ got (take (length (limitsOf k)) v) end = sym (c .before .before .before .before .before .read-values .ensures) ∙ ap (seenAll s (take (length (limitsOf k)) v)) (c .before .before .place .given .1) in
-    rw (reading (c .before .before .before .before .before .before .before .before .before .before .before .before), front s n (c .before .before .before .before .before .before .before .before .before .before .before .if1 .left), eq-eqb _ _ (c .before .before .before .before .before .before .before .before .before .if2 .left), front s (n + 1) (c .before .before .before .before .before .before .before .before .if3 .left), e, made-call (c .before .before .before .before .before .before .before .before .before .before .before .before .before .number .given .0 .0) k v end) (c .call-of .ensures s)
+    let e : takeRest (limitsOf k) (drop (n + 1 + 1) s) ≡ got (take (length (limitsOf k)) v) end = sym (c .before .before .before .before .before .read-values .ensures .0) ∙ ap (seenAll s (take (length (limitsOf k)) v)) (c .before .before .place .given .1) in
+    (rw (reading (c .before .before .before .before .before .before .before .before .before .before .before .before), front s n (c .before .before .before .before .before .before .before .before .before .before .before .if1 .left), eq-eqb _ _ (c .before .before .before .before .before .before .before .before .before .if2 .left), front s (n + 1) (c .before .before .before .before .before .before .before .before .if3 .left), e, made-call (c .before .before .before .before .before .before .before .before .before .before .before .before .before .number .given .0 .0) k v end) (c .call-of .ensures .0 s), omega (arith, rw (c .before .before .place .given .1) at (c .before .before .before .before .before .read-values .ensures .1)))
 
 pub take-call-spec : {M : Type 1} → statement M
 take-call-spec =

@@ -54,7 +54,7 @@ returns c =
     let l = c .before .before .before .before .loop in
     let a = c .before .before .before .before .before .before .before .before .before .args in
     let e : takeField (getD (limitsOf (a .letter)) (l .i) 0) (drop (l .next) (a .s .now)) ≡ none = rw (limit (c .before .before .before)) at (sym (c .before .before .read-field .ensures) ∙ ap (seen (a .s .now)) (c .enum-told .given .1)) in
-    sym (rest-bad (limitsOf (a .letter)) (take (l .i) (l .out)) (drop (l .next) (a .s .now)) (l .i) (omega (arith, c .before .before .before .loop-test .taken, c .before .before .before .before .before .before .limits-of .ensures)) e) ∙ l .inv .2
+    (sym (rest-bad (limitsOf (a .letter)) (take (l .i) (l .out)) (drop (l .next) (a .s .now)) (l .i) (omega (arith, c .before .before .before .loop-test .taken, c .before .before .before .before .before .before .limits-of .ensures)) e) ∙ l .inv .2, omega arith)
 
 mul-out : tie.Need-mul-out Inv-loop μ-loop
 mul-out c = search needs
@@ -84,7 +84,7 @@ returns-2 : tie.Need-returns-2 Inv-loop μ-loop
 unfolding takeRest
 returns-2 c =
     let n : length (limitsOf (c .before .before .before .before .before .before .before .args .letter)) ≤ c .before .before .loop .i = omega (arith, c .before .loop-test .left, c .before .before .before .before .limits-of .ensures) in
-    rw (drop-of-length-le (limitsOf (c .before .before .before .before .before .before .before .args .letter)) n, drop-of-length-le (c .before .before .before .before .before .before .before .args .s .now) (c .if1 .taken)) at (c .before .before .loop .inv .2)
+    (rw (drop-of-length-le (limitsOf (c .before .before .before .before .before .before .before .args .letter)) n, drop-of-length-le (c .before .before .before .before .before .before .before .args .s .now) (c .if1 .taken)) at (c .before .before .loop .inv .2), omega arith)
 
 shared-slice-read-if2 : tie.Need-shared-slice-read-if2 Inv-loop μ-loop
 shared-slice-read-if2 c = search needs
@@ -96,7 +96,7 @@ returns-3 : tie.Need-returns-3 Inv-loop μ-loop
 unfolding takeRest
 returns-3 c =
     let n : length (limitsOf (c .before .before .before .before .before .before .before .before .before .args .letter)) ≤ c .before .before .before .before .loop .i = omega (arith, c .before .before .before .loop-test .left, c .before .before .before .before .before .before .limits-of .ensures) in
-    rw (drop-of-length-le (limitsOf (c .before .before .before .before .before .before .before .before .before .args .letter)) n, front (c .before .before .before .before .before .before .before .before .before .args .s .now) (c .before .before .before .before .loop .next) (c .before .before .if1 .left), ne-eqb _ _ (c .if2 .taken)) at (c .before .before .before .before .loop .inv .2)
+    (rw (drop-of-length-le (limitsOf (c .before .before .before .before .before .before .before .before .before .args .letter)) n, front (c .before .before .before .before .before .before .before .before .before .args .s .now) (c .before .before .before .before .loop .next) (c .before .before .if1 .left), ne-eqb _ _ (c .if2 .taken)) at (c .before .before .before .before .loop .inv .2), omega arith)
 
 add-t19 : tie.Need-add-t19 Inv-loop μ-loop
 add-t19 c = search needs
@@ -109,7 +109,7 @@ unfolding takeRest
 returns-4 c =
     let n : length (limitsOf (c .before .before .before .before .before .before .before .before .before .args .letter)) ≤ c .before .before .before .before .loop .i = omega (arith, c .before .before .before .loop-test .left, c .before .before .before .before .before .before .limits-of .ensures) in
     let m : c .before .before .before .before .loop .i ≡ length (limitsOf (c .before .before .before .before .before .before .before .before .before .args .letter)) = omega (arith, c .before .before .before .before .loop .inv .0) in
-    rw (drop-of-length-le (limitsOf (c .before .before .before .before .before .before .before .before .before .args .letter)) n, front (c .before .before .before .before .before .before .before .before .before .args .s .now) (c .before .before .before .before .loop .next) (c .before .before .if1 .left), eq-eqb _ _ (c .if2 .left), append-nil, m) at (c .before .before .before .before .loop .inv .2)
+    (rw (drop-of-length-le (limitsOf (c .before .before .before .before .before .before .before .before .before .args .letter)) n, front (c .before .before .before .before .before .before .before .before .before .args .s .now) (c .before .before .before .before .loop .next) (c .before .before .if1 .left), eq-eqb _ _ (c .if2 .left), append-nil, m) at (c .before .before .before .before .loop .inv .2), omega arith)
 
 pub read-values-spec : {M : Type 1} → statement M
 read-values-spec =
