@@ -1,7 +1,7 @@
 -- The calls of a wait before a breaker, by what the breaker's and the wait's own calls told. Assumes nothing.
 use Prim.Native.Nat.{ℕ, _%_}
 use mathlib.Core.Path.{_≡_, refl, sym, ap, _∙_}
-use mathlib.Core.Bool.{Bool, true, false, _&&_, _||_, false≢true}
+use mathlib.Core.Bool.{Bool, true, false, _||_, false≢true}
 use mathlib.Core.List.{List, [], _∷_, _++_}
 use lib.Dec.{eqb}
 use lib.ListN.{length}
@@ -9,23 +9,32 @@ use borrow.Author.Tests.{eq-eqb, ne-eqb}
 use Rattle.error.specs.Choice.{if_then_else_}
 use Rattle.error.specs.Told.{Told, tell, refused}
 use Rattle.error.specs.declared.Refusal.{Refusal}
-use Rattle.error.specs.declared.Refusal.the-variants.{Time, Storage, Unsound}
-use Rattle.error.proofs.OneToOne.{at, no-refusal, no-shed}
+use Rattle.error.specs.declared.Refusal.the-variants.{Storage}
+use Rattle.error.proofs.OneToOne.{no-refusal, no-shed}
 use Rattle.breaker.specs.declared.Breaker.{Breaker}
 use Rattle.breaker.specs.declared.Ticket.{Ticket}
 use Rattle.breaker.specs.declared.Delay.{Delay}
+use Rattle.breaker.specs.declared.Tested.the-variants as Tested·is
+use Rattle.trip.specs.declared.Config.{Config}
+use Rattle.history.specs.Items.{padded}
+use Rattle.steps.specs.declared.Entry.the-variants.{Granted, Shed}
+use Rattle.steps.specs.Steps.{entry}
+use Rattle.admission.proofs.Admitting.{admitted-shed, admitted-granted}
 use Rattle.breaker.specs.Record.{State, Closed, Open, settings, state, stored, sound}
 use Rattle.breaker.specs.Answers.{ticketValues, delayValues}
-use Rattle.breaker.specs.Rules.{Outcome, outcome, Admitted, granted, shed, admit, viaTrait, done, sheds, stillAdmits}
+use Rattle.breaker.specs.Rules.{Outcome, outcome, Admitted, granted, shed, admit, admitAs, viaTrait, done, sheds, stillAdmits, finish, aborting}
 use Rattle.breaker.specs.Calls as Breaker·calls
-use Rattle.breaker.specs.Calls.{kept, answered, admission, abortAs, onSound, asked, guarded}
+use Rattle.breaker.specs.Calls.{kept, answered, asked, guarded}
+use Rattle.breaker.specs.Orders.{nothing}
 use Rattle.breaker.proofs.Record.{stored-state, padded-state}
-use Rattle.breaker.proofs.Guard.{guarded-storage, guarded-refused, guarded-done, sound-done, asked-done}
+use Rattle.breaker.proofs.Guard.{guarded-refused, guarded-done, asked-done}
 use Rattle.breaker.proofs.OneToOne.{ticketIn, ticket-back}
 use Rattle.wait.specs.declared.Wait.{Wait}
 use Rattle.wait.specs.declared.Observed.{Observed}
 use Rattle.wait.specs.declared.Act.{Act}
 use Rattle.wait.specs.declared.Ending.{Ending}
+use Rattle.wait.specs.declared.Started.{Started}
+use Rattle.wait.specs.declared.Started.the-variants as Started·is
 use Rattle.wait.specs.declared.Turned.{Turned}
 use Rattle.wait.specs.declared.Turned.the-variants as Turned·is
 use Rattle.wait.specs.declared.Ran.{Ran}
@@ -35,25 +44,27 @@ use Rattle.wait.specs.declared.Dropped.the-variants as Dropped·is
 use Rattle.wait.specs.declared.Turning.{Turning}
 use Rattle.wait.specs.declared.Running.{Running}
 use Rattle.wait.specs.declared.Dropping.{Dropping}
-use Rattle.wait.specs.Answers.{actValues, droppedTold, waitValues}
-use Rattle.wait.specs.Turns.{isTime, newWait, started}
+use Rattle.wait.specs.Answers.{actValues, startedTold, waitValues}
+use Rattle.wait.specs.Turns.{started}
+use Rattle.wait.proofs.OneToOne.{started-one}
 use Rattle.wait.specs.Keep.{turned}
 use Rattle.wait.specs.Run.{runs, dropped}
 use Rattle.waiting.specs.declared.Pending.{Pending}
 use Rattle.waiting.specs.declared.Running as Waiting·running
 use Rattle.waiting.specs.declared.Course.the-variants.{Refused}
 use Rattle.waiting.specs.Answers.{courseTold}
-use Rattle.waiting.specs.Rules.{aborting, judged, completes}
-use Rattle.waiting.specs.Calls.{After, after, pending, beside, begins, starting, turnedTo, turning, Report, report, ranTo, running, droppedTo, leaving}
+use Rattle.waiting.specs.Rules.{afterAbort, judged, completes}
+use Rattle.waiting.specs.Calls.{After, after, pending, beside, begins, startedTo, starting, turnedTo, turning, Report, report, ranTo, running, droppedTo, leaving}
 
 -- ---- what a sound breaker's calls come to
 
 -- an abort, beside whatever is told
-pub aborted : (told told' : Told) (t : Ticket) (b next : Breaker) (s s' : List ℕ) → sound b s ≡ true
-    → Breaker·calls.after told' next s' ≡ onSound (abortAs t false) b s
-    → Breaker·calls.after told next s' ≡ kept (b .config) (aborting told t (settings (b .config)) (state b s))
-aborted told told' t b next s s' ok e =
-    ap (λ (a : Breaker·calls.After). Breaker·calls.after told (a .breaker) (a .places)) (e ∙ sym (sound-done (abortAs t false) b s ok))
+pub aborted : (told : Told) (t : Ticket) (b next : Breaker) (s : List ℕ) → sound b s ≡ true
+    → ((c : Config) (st : State) (reading : ℕ) → b ≡ stored c st → kept c (finish (settings c) reading (aborting t false) st) ≡ Breaker·calls.after nothing next (padded (st .list)))
+    → Breaker·calls.after told next s ≡ kept (b .config) (afterAbort told t (settings (b .config)) (state b s))
+aborted told t b next s ok h =
+    ap (Breaker·calls.after told next) (padded-state b s ok)
+    ∙ ap (λ (a : Breaker·calls.After). Breaker·calls.after told (a .breaker) (a .places)) (sym (h (b .config) (state b s) 0 (stored-state b s ok)))
 
 -- an outcome that leaves the state as it was
 pub unchanged : (told : Told) (b : Breaker) (s : List ℕ) → sound b s ≡ true → Breaker·calls.after told b s ≡ kept (b .config) (outcome told (state b s))
@@ -79,7 +90,7 @@ module _ (reading : ℕ) (t : Ticket) (b : Breaker) (s : List ℕ) (ok : sound b
   still-admits e = unchanged (tell 0 (0 ∷ ticketValues t)) b s ok ∙ ap (λ (v : Told). kept (b .config) (judged v t (settings (b .config)) (state b s))) e
 
   pub sheds-now : (d : Delay) (a : Breaker·calls.After) → tell 6 (delayValues d) ≡ stillAdmits reading t (state b s)
-      → a ≡ kept (b .config) (aborting (tell 6 (delayValues d ++ (1 ∷ []))) t (settings (b .config)) (state b s))
+      → a ≡ kept (b .config) (afterAbort (tell 6 (delayValues d ++ (1 ∷ []))) t (settings (b .config)) (state b s))
       → a ≡ kept (b .config) (judged (stillAdmits reading t (state b s)) t (settings (b .config)) (state b s))
   sheds-now d a e q = q ∙ ap (λ (v : Told). kept (b .config) (judged v t (settings (b .config)) (state b s))) e
 
@@ -89,17 +100,6 @@ module _ (reading : ℕ) (t : Ticket) (b : Breaker) (s : List ℕ) (ok : sound b
   no-verdict r e = no-told (eqb (t .generation) (state b s .generation)) (eqb (state b s .state) Closed) (eqb (state b s .state) Open) r _ _ e
 
 -- ---- start
-
-abbrev waitIn : List ℕ → Wait
-waitIn vs = record { phase = at vs 0; limited = at vs 1; deadline = at vs 2; seen = at vs 3; due = at vs 4; zeros = at vs 5 }
-
-times-refused : (x : Bool) (r : Refusal) (vs : List ℕ) → refused r ≡ (if x then tell 0 vs else refused Time) → x ≡ false
-times-refused true r vs e = no-refusal r vs (sym e)
-times-refused false r vs e = refl
-
-times-good : (x : Bool) (w w' : Wait) → tell 0 (waitValues w) ≡ (if x then tell 0 (waitValues w') else refused Time) → (x ≡ true) × (w ≡ w')
-times-good true w w' e = (refl, ap (λ (t : Told). waitIn (t .values)) e)
-times-good false w w' e = no-refusal Time (waitValues w) e
 
 -- what an admission told, and what the rule says
 module _ (b : Breaker) (s : List ℕ) (p : Pending) (w : Wait) where
@@ -116,61 +116,36 @@ module _ (b : Breaker) (s : List ℕ) (p : Pending) (w : Wait) where
   shed-is ok (granted u st) d next s' e = absurd (false≢true (ap (λ (a : Breaker·calls.After). eqb (a .told .number) 0) e))
   shed-is ok (shed ms) d next s' e = ap (beside p) (e ∙ sym (unchanged (sheds ms) b s ok))
 
-  refused-is : {A : Type 0} (x : Admitted) (r : Refusal) (next : Breaker) (s' : List ℕ)
-      → Breaker·calls.after (refused r) next s' ≡ kept (b .config) (answered (viaTrait false x) (state b s)) → A
-  refused-is (granted u st) r next s' e = no-refusal r _ (sym (ap (λ (a : Breaker·calls.After). a .told) e))
-  refused-is (shed ms) r next s' e = no-shed r _ (sym (ap (λ (a : Breaker·calls.After). a .told) e))
-
 module _ (reading clock : ℕ) (limited : Bool) (timeout : ℕ) (b : Breaker) (s : List ℕ) (p : Pending) where
-  pub start-storage : (length s ≡ 4096 → ⊥) → after (refused Storage) b s p ≡ starting reading clock limited timeout b s p
+  pub start-tested : (r : Refusal) → Tested·is.Refused r ≡ guarded Tested·is.Refused Tested·is.Sound b s → after (refused r) b s p ≡ starting reading clock limited timeout b s p
   unfolding starting
-  start-storage n = guarded-storage (λ r. after (refused r) b s p) _ b s n
+  start-tested r e = guarded-refused (λ r. after (refused r) b s p) _ b s r e
 
-  pub start-unsound : length s ≡ 4096 → sound b s ≡ false → after (refused Unsound) b s p ≡ starting reading clock limited timeout b s p
-  unfolding starting
-  start-unsound l e = guarded-refused (λ r. after (refused r) b s p) _ b s l e
+  module _ (ok : sound b s ≡ true) where
+    -- what the wait's own start came to
+    begun : (x : Started) → startedTold x ≡ startedTold (started clock limited timeout) → startedTo x reading b s p ≡ starting reading clock limited timeout b s p
+    unfolding starting
+    begun x e = ap (λ (y : Started). startedTo y reading b s p) (started-one x (started clock limited timeout) e) ∙ guarded-done (λ r. after (refused r) b s p) _ b s ok
 
-  pub start-time : sound b s ≡ true → (r : Refusal) → refused r ≡ started clock limited timeout → after (refused Time) b s p ≡ starting reading clock limited timeout b s p
-  unfolding starting started
-  start-time ok r e =
-      let x = times-refused (isTime clock && isTime timeout) r _ e in
-      ap (λ (y : Bool). if y then begins (newWait clock limited timeout) (admit (settings (b .config)) reading (state b s)) b s p else after (refused Time) b s p) (sym x) ∙ guarded-done (λ r. after (refused r) b s p) _ b s ok
+    pub start-refused : (r : Refusal) → refused r ≡ startedTold (started clock limited timeout) → after (refused r) b s p ≡ starting reading clock limited timeout b s p
+    start-refused r e = begun (Started·is.Refused r) e
 
-  -- a wait that was made, and what the admission came to
-  module _ (ok : sound b s ≡ true) (w : Wait) (made : tell 0 (waitValues w) ≡ started clock limited timeout) where
-    begun : begins w (admit (settings (b .config)) reading (state b s)) b s p ≡ starting reading clock limited timeout b s p
-    unfolding starting started
-    begun =
-        let x = times-good (isTime clock && isTime timeout) w (newWait clock limited timeout) made in
-        ap (λ (v : Wait). begins v (admit (settings (b .config)) reading (state b s)) b s p) (x .1)
-        ∙ ap (λ (y : Bool). if y then begins (newWait clock limited timeout) (admit (settings (b .config)) reading (state b s)) b s p else after (refused Time) b s p) (sym (x .0))
-        ∙ guarded-done (λ r. after (refused r) b s p) _ b s ok
+    -- a wait that was made, and what the admission came to
+    module _ (w : Wait) (made : tell 0 (waitValues w) ≡ startedTold (started clock limited timeout)) where
+      pub start-granted : (t : Ticket) (next : Breaker) → Granted t next ≡ entry (b .config) (admitAs false (settings (b .config)) reading (state b s))
+          → after (tell 0 []) next s (pending w t) ≡ starting reading clock limited timeout b s p
+      start-granted t next e = granted-is b s p w (admit (settings (b .config)) reading (state b s)) t next s (admitted-granted reading b s ok false t next e) ∙ begun (Started·is.Made w) made
 
-    told : (a : Breaker·calls.After) → a ≡ onSound (admission false reading) b s
-        → a ≡ kept (b .config) (answered (viaTrait false (admit (settings (b .config)) reading (state b s))) (state b s))
-    told a e = e ∙ sym (sound-done (admission false reading) b s ok)
-
-    pub start-granted : (t : Ticket) (next : Breaker) (s' : List ℕ) → Breaker·calls.after (tell 0 (ticketValues t)) next s' ≡ onSound (admission false reading) b s
-        → after (tell 0 []) next s' (pending w t) ≡ starting reading clock limited timeout b s p
-    start-granted t next s' e = granted-is b s p w (admit (settings (b .config)) reading (state b s)) t next s' (told _ e) ∙ begun
-
-    pub start-shed : (d : Delay) (next : Breaker) (s' : List ℕ) → Breaker·calls.after (tell 6 (delayValues d)) next s' ≡ onSound (admission false reading) b s
-        → after (tell 6 (delayValues d)) next s' p ≡ starting reading clock limited timeout b s p
-    start-shed d next s' e = shed-is b s p w ok (admit (settings (b .config)) reading (state b s)) d next s' (told _ e) ∙ begun
-
-    pub start-refused : {A : Type 0} (r : Refusal) (next : Breaker) (s' : List ℕ) → Breaker·calls.after (refused r) next s' ≡ onSound (admission false reading) b s → A
-    start-refused r next s' e = refused-is b s p w (admit (settings (b .config)) reading (state b s)) r next s' (told _ e)
+      pub start-shed : (d : Delay) → Shed d ≡ entry (b .config) (admitAs false (settings (b .config)) reading (state b s))
+          → after (tell 6 (delayValues d)) b s p ≡ starting reading clock limited timeout b s p
+      start-shed d e = shed-is b s p w ok (admit (settings (b .config)) reading (state b s)) d b s (admitted-shed reading b s ok false d e) ∙ begun (Started·is.Made w) made
 
 -- ---- a turn, a run, a drop
 
 module _ (t : Observed) (reading capacity : ℕ) (b : Breaker) (s : List ℕ) (p : Pending) where
-  pub turn-storage : (length s ≡ 4096 → ⊥) → after (refused Storage) b s p ≡ turning t reading capacity b s p
+  pub turn-tested : (r : Refusal) → Tested·is.Refused r ≡ guarded Tested·is.Refused Tested·is.Sound b s → after (refused r) b s p ≡ turning t reading capacity b s p
   unfolding turning
-  turn-storage n = guarded-storage (λ r. after (refused r) b s p) _ b s n
-
-  pub turn-unsound : length s ≡ 4096 → sound b s ≡ false → after (refused Unsound) b s p ≡ turning t reading capacity b s p
-  unfolding turning
-  turn-unsound l e = guarded-refused (λ r. after (refused r) b s p) _ b s l e
+  turn-tested r e = guarded-refused (λ r. after (refused r) b s p) _ b s r e
 
   pub turn-is : sound b s ≡ true → (x : Turning) → x ≡ turned (p .wait) t → turnedTo (x .answer) (x .wait) reading capacity b s p ≡ turning t reading capacity b s p
   unfolding turning
@@ -202,11 +177,9 @@ module _ (turns : List ℕ) (limit reading capacity : ℕ) (b : Breaker) (s : Li
   unfolding running
   whole m x e = rw (eq-eqb _ _ m) e
 
-  pub run-storage : length turns % 8 ≡ 0 → (length s ≡ 4096 → ⊥) → report (after (refused Storage) b s p) 0 ≡ running turns limit reading capacity b s p
-  run-storage m n = whole m _ (guarded-storage (λ r. report (after (refused r) b s p) 0) _ b s n)
-
-  pub run-unsound : length turns % 8 ≡ 0 → length s ≡ 4096 → sound b s ≡ false → report (after (refused Unsound) b s p) 0 ≡ running turns limit reading capacity b s p
-  run-unsound m l e = whole m _ (guarded-refused (λ r. report (after (refused r) b s p) 0) _ b s l e)
+  pub run-tested : length turns % 8 ≡ 0 → (r : Refusal) → Tested·is.Refused r ≡ guarded Tested·is.Refused Tested·is.Sound b s
+      → report (after (refused r) b s p) 0 ≡ running turns limit reading capacity b s p
+  run-tested m r e = whole m _ (guarded-refused (λ r. report (after (refused r) b s p) 0) _ b s r e)
 
   pub run-is : length turns % 8 ≡ 0 → sound b s ≡ true → (x : Running) → x ≡ runs (p .wait) turns limit
       → report (ranTo (x .answer) (x .wait) reading capacity b s p) (x .taken) ≡ running turns limit reading capacity b s p
@@ -230,13 +203,9 @@ module _ (turns : List ℕ) (limit reading capacity : ℕ) (b : Breaker) (s : Li
         ap (λ (y : Pending). report (beside y a) (x .taken)) left ∙ ap (λ (y : Breaker·calls.After). report (beside (pending (x .wait) (p .ticket)) y) (x .taken)) d ∙ ran-is (Ran·is.Ends e) h
 
 module _ (b : Breaker) (s : List ℕ) (p : Pending) where
-  pub drop-storage : (length s ≡ 4096 → ⊥) → after (refused Storage) b s p ≡ leaving b s p
+  pub drop-tested : (r : Refusal) → Tested·is.Refused r ≡ guarded Tested·is.Refused Tested·is.Sound b s → after (refused r) b s p ≡ leaving b s p
   unfolding leaving
-  drop-storage n = guarded-storage (λ r. after (refused r) b s p) _ b s n
-
-  pub drop-unsound : length s ≡ 4096 → sound b s ≡ false → after (refused Unsound) b s p ≡ leaving b s p
-  unfolding leaving
-  drop-unsound l e = guarded-refused (λ r. after (refused r) b s p) _ b s l e
+  drop-tested r e = guarded-refused (λ r. after (refused r) b s p) _ b s r e
 
   pub drop-is : sound b s ≡ true → (x : Dropping) → x ≡ dropped (p .wait) → droppedTo (x .answer) (x .wait) b s p ≡ leaving b s p
   unfolding leaving
@@ -244,15 +213,19 @@ module _ (b : Breaker) (s : List ℕ) (p : Pending) where
 
   module _ (ok : sound b s ≡ true) (x : Dropping) (is : x ≡ dropped (p .wait)) (q : Pending) (left : q ≡ pending (x .wait) (p .ticket)) where
     pub drop-refused : (r : Refusal) → x .answer ≡ Dropped·is.Refused r → after (refused r) b s q ≡ leaving b s p
-    drop-refused r e = ap (after (refused r) b s) left ∙ ap (λ (y : Dropped). droppedTo y (x .wait) b s p) (sym e) ∙ drop-is ok x is
+    drop-refused r e =
+        ap (after (refused r) b s) left
+        ∙ ap (λ (y : Dropped). droppedTo y (x .wait) b s p) (sym e)
+        ∙ drop-is ok x is
 
-    pub drop-gives : (n : ℕ) (told : Told) (next : Breaker) (s' : List ℕ) → x .answer ≡ Dropped·is.GiveBack n
-        → Breaker·calls.after told next s' ≡ onSound (abortAs (p .ticket) false) b s → after (droppedTold (x .answer)) next s' q ≡ leaving b s p
-    drop-gives n told next s' e d =
-        ap (λ (y : Dropped). after (droppedTold y) next s' q) e
-        ∙ ap (after (tell 0 (n ∷ [])) next s') left
-        ∙ ap (beside (pending (x .wait) (p .ticket))) (aborted (tell 0 (n ∷ [])) told (p .ticket) b next s s' ok d)
-        ∙ ap (λ (y : Dropped). droppedTo y (x .wait) b s p) (sym e) ∙ drop-is ok x is
+    pub drop-gives : (n : ℕ) (next : Breaker) → x .answer ≡ Dropped·is.GiveBack n
+        → Breaker·calls.after (tell 0 (n ∷ [])) next s ≡ kept (b .config) (afterAbort (tell 0 (n ∷ [])) (p .ticket) (settings (b .config)) (state b s))
+        → after (tell 0 (n ∷ [])) next s q ≡ leaving b s p
+    drop-gives n next e d =
+        ap (after (tell 0 (n ∷ [])) next s) left
+        ∙ ap (beside (pending (x .wait) (p .ticket))) d
+        ∙ ap (λ (y : Dropped). droppedTo y (x .wait) b s p) (sym e)
+        ∙ drop-is ok x is
 
 -- a run that takes no turn
 pub not-run-is : (x : Waiting·running.Running) (r : Refusal) (b : Breaker) (p : Pending) (s : List ℕ)

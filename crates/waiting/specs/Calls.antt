@@ -1,21 +1,20 @@
 -- The entry points of a wait before a breaker: each tests 3 and 4, then what the wait itself refuses (11, then 1), and then does what the rules say. Definitions only.
-use Prim.Native.Nat.{ℕ, _%_}
-use mathlib.Core.Bool.{Bool, _&&_}
+use Prim.Native.Nat.{ℕ}
+use mathlib.Core.Bool.{Bool}
 use mathlib.Core.List.{List, [], _∷_}
-use lib.Dec.{eqb}
-use lib.ListN.{length}
 use Rattle.error.specs.Choice.{if_then_else_}
 use Rattle.error.specs.Told.{Told, tell, refused}
-use Rattle.error.specs.declared.Refusal.{Refusal}
-use Rattle.error.specs.declared.Refusal.the-variants.{Time, Storage}
+use Rattle.error.specs.declared.Refusal.the-variants.{Storage}
 use Rattle.breaker.specs.declared.Breaker.{Breaker}
 use Rattle.breaker.specs.declared.Ticket.{Ticket}
 use Rattle.breaker.specs.Record.{settings, state}
-use Rattle.breaker.specs.Rules.{Outcome, Admitted, granted, shed, admit, done, sheds}
+use Rattle.breaker.specs.Rules.{Admitted, granted, shed, admit, done, sheds}
 use Rattle.breaker.specs.Calls as Breaker·calls
 use Rattle.breaker.specs.Calls.{guarded, kept}
 use Rattle.wait.specs.declared.Wait.{Wait}
 use Rattle.wait.specs.declared.Observed.{Observed}
+use Rattle.wait.specs.declared.Started.{Started}
+use Rattle.wait.specs.declared.Started.the-variants as Started·is
 use Rattle.wait.specs.declared.Ending.{Ending}
 use Rattle.wait.specs.declared.Turned.{Turned}
 use Rattle.wait.specs.declared.Turned.the-variants as Turned·is
@@ -24,11 +23,11 @@ use Rattle.wait.specs.declared.Ran.the-variants as Ran·is
 use Rattle.wait.specs.declared.Dropped.{Dropped}
 use Rattle.wait.specs.declared.Dropped.the-variants as Dropped·is
 use Rattle.wait.specs.Answers.{actValues}
-use Rattle.wait.specs.Turns.{isTime, newWait}
+use Rattle.wait.specs.Turns.{started}
 use Rattle.wait.specs.Keep.{turned}
-use Rattle.wait.specs.Run.{runs, dropped}
+use Rattle.wait.specs.Run.{wholeTurns, runs, dropped}
 use Rattle.waiting.specs.declared.Pending.{Pending}
-use Rattle.waiting.specs.Rules.{aborting, completes}
+use Rattle.waiting.specs.Rules.{afterAbort, completes}
 
 -- ---- what a call leaves: what it told, the record, every place, and the wait with its ticket
 
@@ -54,12 +53,12 @@ abbrev pub begins : Wait → Admitted → Breaker → List ℕ → Pending → A
 begins w (granted t next) b s p = beside (pending w t) (kept (b .config) (done next))
 begins w (shed ms) b s p = after (sheds ms) b s p
 
+abbrev pub startedTo : Started → ℕ → Breaker → List ℕ → Pending → After
+startedTo (Started·is.Made w) reading b s p = begins w (admit (settings (b .config)) reading (state b s)) b s p
+startedTo (Started·is.Refused r) reading b s p = after (refused r) b s p
+
 unfoldable pub starting : ℕ → ℕ → Bool → ℕ → Breaker → List ℕ → Pending → After
-starting reading clock limited timeout b s p =
-    guarded (λ r. after (refused r) b s p)
-    (if isTime clock && isTime timeout then begins (newWait clock limited timeout) (admit (settings (b .config)) reading (state b s)) b s p
-    else after (refused Time) b s p)
-    b s
+starting reading clock limited timeout b s p = guarded (λ r. after (refused r) b s p) (startedTo (started clock limited timeout) reading b s p) b s
 
 -- ---- a turn: what its wait makes of it, and what the wait's end does to the breaker
 
@@ -95,7 +94,7 @@ ranTo (Ran·is.Refused r) w reading capacity b s p = after (refused r) b s (pend
 unfoldable pub running : List ℕ → ℕ → ℕ → ℕ → Breaker → List ℕ → Pending → Report
 running turns limit reading capacity b s p =
     let x = runs (p .wait) turns limit in
-    if eqb (length turns % 8) 0 then
+    if wholeTurns turns then
     guarded (λ r. report (after (refused r) b s p) 0) (report (ranTo (x .answer) (x .wait) reading capacity b s p) (x .taken)) b s
     else report (after (refused Storage) b s p) 0
 
@@ -103,7 +102,7 @@ running turns limit reading capacity b s p =
 
 abbrev pub droppedTo : Dropped → Wait → Breaker → List ℕ → Pending → After
 droppedTo (Dropped·is.GiveBack n) w b s p =
-    beside (pending w (p .ticket)) (kept (b .config) (aborting (tell 0 (n ∷ [])) (p .ticket) (settings (b .config)) (state b s)))
+    beside (pending w (p .ticket)) (kept (b .config) (afterAbort (tell 0 (n ∷ [])) (p .ticket) (settings (b .config)) (state b s)))
 droppedTo (Dropped·is.Refused r) w b s p = after (refused r) b s (pending w (p .ticket))
 
 unfoldable pub leaving : Breaker → List ℕ → Pending → After

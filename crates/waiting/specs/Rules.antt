@@ -1,7 +1,7 @@
 -- "Waiting answers": what the end of a wait does to its breaker. Definitions only.
 use Prim.Native.Nat.{ℕ}
 use mathlib.Core.Bool.{false}
-use mathlib.Core.List.{List, [], _∷_, _++_}
+use mathlib.Core.List.{[], _∷_, _++_}
 use lib.Dec.{eqb}
 use Rattle.error.specs.Choice.{if_then_else_}
 use Rattle.error.specs.Told.{Told, tell}
@@ -13,18 +13,18 @@ use Rattle.breaker.specs.Calls.{abortAs}
 use Rattle.wait.specs.declared.Ending.{Ending}
 use Rattle.wait.specs.declared.Ending.the-variants.{Done, Deadline, Never}
 
--- "ticket aborted"
-abbrev pub aborting : Told → Ticket → Settings → State → Outcome
-aborting told t s st = outcome told (abortAs t false s st .after)
+-- "ticket aborted", and what is told
+abbrev pub afterAbort : Told → Ticket → Settings → State → Outcome
+afterAbort told t s st = outcome told (abortAs t false s st .after)
 
 -- "Done: `still_admits` at a breaker reading handed in; if refused, refund 1, abort, delay."
 abbrev pub judged : Told → Ticket → Settings → State → Outcome
 judged verdict t s st =
     if eqb (verdict .number) 0 then outcome (tell 0 (0 ∷ ticketValues t)) st
-    else aborting (tell (verdict .number) (verdict .values ++ (1 ∷ []))) t s st
+    else afterAbort (tell (verdict .number) (verdict .values ++ (1 ∷ []))) t s st
 
 -- "Deadline, never, or a dropped wait: abort"
 abbrev pub completes : Ending → ℕ → ℕ → Ticket → Settings → State → Outcome
 completes Done reading capacity t s st = judged (stillAdmits reading t st) t s st
-completes (Deadline back) reading capacity t s st = aborting (tell 9 (back ∷ [])) t s st
-completes Never reading capacity t s st = aborting (tell 8 (1 ∷ capacity ∷ [])) t s st
+completes (Deadline back) reading capacity t s st = afterAbort (tell 9 (back ∷ [])) t s st
+completes Never reading capacity t s st = afterAbort (tell 8 (1 ∷ capacity ∷ [])) t s st

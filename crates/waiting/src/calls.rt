@@ -6,7 +6,7 @@ ghost use Rattle.breaker.specs.Calls as Breaker·calls;
 ghost use Rattle.breaker.specs.Calls.{kept};
 ghost use Rattle.wait.specs.Answers.{droppedTold};
 ghost use Rattle.waiting.specs.Answers.{begunTold, completedTold, awaitedTold, courseTold};
-ghost use Rattle.waiting.specs.Rules.{aborting, completes};
+ghost use Rattle.waiting.specs.Rules.{completes};
 ghost use Rattle.waiting.specs.Calls as Calls;
 ghost use Rattle.waiting.specs.Calls.{after, report, starting, turning, running, leaving};
 ghost use Rattle.waiting.specs.declared.Course.the-variants.{Refused};
@@ -21,15 +21,16 @@ use crate::Leaving;
 use crate::Pending;
 use crate::Running;
 use crate::Waited;
-use admission::admit_as;
-use breaker::Admission;
 use breaker::Breaker;
 use breaker::Standing;
+use breaker::Tested;
 use breaker::Ticket;
-use breaker::is_sound;
 use breaker::still_admits;
-use circuit::abort_as;
+use breaker::test;
 use error::Refusal;
+use steps::Entry;
+use steps::abort_locked;
+use steps::admit_as_locked;
 use wait::Dropped;
 use wait::Ending;
 use wait::Observed;
@@ -38,8 +39,8 @@ use wait::Started;
 use wait::Turned;
 use wait::Wait;
 
-// A wait that has ended keeps its ticket.
-fn beside(wait: Wait, pending: Pending) -> Pending
+// The pending wait with another wait and the same ticket.
+fn with_wait(wait: Wait, pending: Pending) -> Pending
     ensures { λ r. ⌜ r ≡ Calls.pending wait (pending .ticket) ⌝ }
 {
     let ticket = pending.ticket;
@@ -59,99 +60,74 @@ pub fn start(
 ) -> Beginning
     ensures { λ r. ⌜ after (begunTold (r .answer)) (r .breaker) (now (list .exit)) (r .pending) ≡ starting «now_ms» clock limited timeout breaker (now (list .entry)) pending ⌝ }
 {
-    if list.len() != 4096 {
-        return Beginning {
-            answer: Begun::Refused(Refusal::Storage),
-            breaker,
-            pending,
-        };
-    }
-    if !is_sound(breaker, list) {
-        return Beginning {
-            answer: Begun::Refused(Refusal::Unsound),
-            breaker,
-            pending,
-        };
-    }
-    let begun = wait::start(clock, limited, timeout);
-    let Started::Made(wait) = begun else {
-        return Beginning {
-            answer: Begun::Refused(Refusal::Time),
-            breaker,
-            pending,
-        };
-    };
-    let admitted = admit_as(breaker, list, now_ms, false);
-    let answer = admitted.answer;
-    let next = admitted.breaker;
-    match answer {
-        Admission::Granted(ticket) => Beginning {
-            answer: Begun::Waits,
-            breaker: next,
-            pending: Pending { wait, ticket },
-        },
-        Admission::Shed(d) => Beginning {
-            answer: Begun::Shed(d),
-            breaker: next,
-            pending,
-        },
-        Admission::Refused(r) => Beginning {
+    match test(breaker, list) {
+        Tested::Refused(r) => Beginning {
             answer: Begun::Refused(r),
-            breaker: next,
+            breaker,
             pending,
         },
-    }
-}
-
-// Gives the ticket back, beside an answer.
-fn give_back(breaker: Breaker, list: &mut [u64], ticket: Ticket, answer: Completed) -> Completion
-    requires { ⌜ sound breaker (now list) ≡ true ⌝ }
-    ensures { λ r. ⌜ Breaker·calls.after (completedTold (r .answer)) (r .breaker) (now (list .exit)) ≡ kept (breaker .config) (aborting (completedTold answer) ticket (settings (breaker .config)) (state breaker (now (list .entry)))) ⌝ }
-{
-    let aborted = abort_as(breaker, list, ticket, false);
-    let next = aborted.breaker;
-    Completion {
-        answer,
-        breaker: next,
+        Tested::Sound => match wait::start(clock, limited, timeout) {
+            Started::Refused(r) => Beginning {
+                answer: Begun::Refused(r),
+                breaker,
+                pending,
+            },
+            Started::Made(wait) => match admit_as_locked(breaker, now_ms, false) {
+                Entry::Granted(ticket, next) => Beginning {
+                    answer: Begun::Waits,
+                    breaker: next,
+                    pending: Pending { wait, ticket },
+                },
+                Entry::Shed(d) => Beginning {
+                    answer: Begun::Shed(d),
+                    breaker,
+                    pending,
+                },
+            },
+        },
     }
 }
 
 // What the end of a wait does to the breaker.
 fn complete(
     breaker: Breaker,
-    list: &mut [u64],
+    list: &[u64],
     ticket: Ticket,
     ending: Ending,
     now_ms: u64,
     capacity: u32,
 ) -> Completion
     requires { ⌜ sound breaker (now list) ≡ true ⌝ }
-    ensures { λ r. ⌜ Breaker·calls.after (completedTold (r .answer)) (r .breaker) (now (list .exit)) ≡ kept (breaker .config) (completes ending «now_ms» capacity ticket (settings (breaker .config)) (state breaker (now (list .entry)))) ⌝ }
+    ensures { λ r. ⌜ Breaker·calls.after (completedTold (r .answer)) (r .breaker) (now (list .entry)) ≡ kept (breaker .config) (completes ending «now_ms» capacity ticket (settings (breaker .config)) (state breaker (now (list .entry)))) ⌝ }
 {
     match ending {
-        Ending::Deadline(back) => give_back(breaker, list, ticket, Completed::Deadline(back)),
-        Ending::Never => give_back(
-            breaker,
-            list,
-            ticket,
-            Completed::Impossible(1, capacity as u64),
-        ),
-        Ending::Done => {
-            let verdict = still_admits(breaker, list, now_ms, ticket);
-            match verdict {
-                Standing::Admits => Completion {
-                    answer: Completed::Admitted(ticket),
-                    breaker,
-                },
-                Standing::Shed(d) => give_back(breaker, list, ticket, Completed::Shed(d, 1)),
-                // never met: the breaker is sound
-                Standing::Refused(_r) => give_back(breaker, list, ticket, Completed::Deadline(1)),
-            }
-        }
+        Ending::Deadline(back) => Completion {
+            answer: Completed::Deadline(back),
+            breaker: abort_locked(breaker, ticket, false),
+        },
+        Ending::Never => Completion {
+            answer: Completed::Impossible(1, capacity as u64),
+            breaker: abort_locked(breaker, ticket, false),
+        },
+        Ending::Done => match still_admits(breaker, list, now_ms, ticket) {
+            Standing::Admits => Completion {
+                answer: Completed::Admitted(ticket),
+                breaker,
+            },
+            Standing::Shed(d) => Completion {
+                answer: Completed::Shed(d, 1),
+                breaker: abort_locked(breaker, ticket, false),
+            },
+            // never met: the breaker is sound
+            Standing::Refused(_r) => Completion {
+                answer: Completed::Deadline(1),
+                breaker,
+            },
+        },
     }
 }
 
-// One turn. One that ends the wait completes it: admitted, if the breaker still admits the ticket at this reading; else the ticket is given back.
+// One turn. One that ends the wait completes it: admitted, if the breaker still admits the ticket at this reading; else the ticket is aborted.
 // Ruled out: a completion that skips the abort; one that admits whatever the breaker has become.
 pub fn turn(
     breaker: Breaker,
@@ -163,42 +139,37 @@ pub fn turn(
 ) -> Awaiting
     ensures { λ r. ⌜ after (awaitedTold (r .answer)) (r .breaker) (now (list .exit)) (r .pending) ≡ turning turn «now_ms» capacity breaker (now (list .entry)) pending ⌝ }
 {
-    if list.len() != 4096 {
-        return Awaiting {
-            answer: Awaited::Refused(Refusal::Storage),
-            breaker,
-            pending,
-        };
-    }
-    if !is_sound(breaker, list) {
-        return Awaiting {
-            answer: Awaited::Refused(Refusal::Unsound),
-            breaker,
-            pending,
-        };
-    }
-    let turned = wait::turn(pending.wait, turn);
-    let answer = turned.answer;
-    let next = beside(turned.wait, pending);
-    match answer {
-        Turned::Next(act) => Awaiting {
-            answer: Awaited::Next(act),
-            breaker,
-            pending: next,
-        },
-        Turned::Refused(r) => Awaiting {
+    match test(breaker, list) {
+        Tested::Refused(r) => Awaiting {
             answer: Awaited::Refused(r),
             breaker,
-            pending: next,
+            pending,
         },
-        Turned::Ends(ending) => {
-            let done = complete(breaker, list, pending.ticket, ending, now_ms, capacity);
-            let told = done.answer;
-            let left = done.breaker;
-            Awaiting {
-                answer: Awaited::Ends(told),
-                breaker: left,
-                pending: next,
+        Tested::Sound => {
+            let turned = wait::turn(pending.wait, turn);
+            let answer = turned.answer;
+            let next = with_wait(turned.wait, pending);
+            match answer {
+                Turned::Next(act) => Awaiting {
+                    answer: Awaited::Next(act),
+                    breaker,
+                    pending: next,
+                },
+                Turned::Refused(r) => Awaiting {
+                    answer: Awaited::Refused(r),
+                    breaker,
+                    pending: next,
+                },
+                Turned::Ends(ending) => {
+                    let done = complete(breaker, list, pending.ticket, ending, now_ms, capacity);
+                    let told = done.answer;
+                    let left = done.breaker;
+                    Awaiting {
+                        answer: Awaited::Ends(told),
+                        breaker: left,
+                        pending: next,
+                    }
+                }
             }
         }
     }
@@ -220,44 +191,43 @@ pub fn run(
     if turns.len() % 8 != 0 {
         return not_run(Refusal::Storage, breaker, pending);
     }
-    if list.len() != 4096 {
-        return not_run(Refusal::Storage, breaker, pending);
-    }
-    if !is_sound(breaker, list) {
-        return not_run(Refusal::Unsound, breaker, pending);
-    }
-    let ran = wait::run(pending.wait, turns, limit);
-    let answer = ran.answer;
-    let taken = ran.taken;
-    let next = beside(ran.wait, pending);
-    match answer {
-        Ran::Unfinished => Running {
-            answer: Waited {
-                course: Course::Unfinished,
-                taken,
-            },
-            breaker,
-            pending: next,
-        },
-        Ran::Refused(r) => Running {
-            answer: Waited {
-                course: Course::Refused(r),
-                taken,
-            },
-            breaker,
-            pending: next,
-        },
-        Ran::Ends(ending) => {
-            let done = complete(breaker, list, pending.ticket, ending, now_ms, capacity);
-            let told = done.answer;
-            let left = done.breaker;
-            Running {
-                answer: Waited {
-                    course: Course::Ends(told),
-                    taken,
+    match test(breaker, list) {
+        Tested::Refused(r) => not_run(r, breaker, pending),
+        Tested::Sound => {
+            let ran = wait::run(pending.wait, turns, limit);
+            let answer = ran.answer;
+            let taken = ran.taken;
+            let next = with_wait(ran.wait, pending);
+            match answer {
+                Ran::Unfinished => Running {
+                    answer: Waited {
+                        course: Course::Unfinished,
+                        taken,
+                    },
+                    breaker,
+                    pending: next,
                 },
-                breaker: left,
-                pending: next,
+                Ran::Refused(r) => Running {
+                    answer: Waited {
+                        course: Course::Refused(r),
+                        taken,
+                    },
+                    breaker,
+                    pending: next,
+                },
+                Ran::Ends(ending) => {
+                    let done = complete(breaker, list, pending.ticket, ending, now_ms, capacity);
+                    let told = done.answer;
+                    let left = done.breaker;
+                    Running {
+                        answer: Waited {
+                            course: Course::Ends(told),
+                            taken,
+                        },
+                        breaker: left,
+                        pending: next,
+                    }
+                }
             }
         }
     }
@@ -276,40 +246,33 @@ fn not_run(refusal: Refusal, breaker: Breaker, pending: Pending) -> Running
     }
 }
 
-// Ends a wait before its time: the ticket is given back, and a held grant is to be.
+// Ends a wait before it has ended: the ticket is aborted, and a held grant is to be given back.
 // Ruled out: a drop that keeps the probe; one that keeps a held grant.
 pub fn drop_pending(breaker: Breaker, list: &mut [u64], pending: Pending) -> Leaving
     ensures { λ r. ⌜ after (droppedTold (r .answer)) (r .breaker) (now (list .exit)) (r .pending) ≡ leaving breaker (now (list .entry)) pending ⌝ }
 {
-    if list.len() != 4096 {
-        return Leaving {
-            answer: Dropped::Refused(Refusal::Storage),
-            breaker,
-            pending,
-        };
-    }
-    if !is_sound(breaker, list) {
-        return Leaving {
-            answer: Dropped::Refused(Refusal::Unsound),
-            breaker,
-            pending,
-        };
-    }
-    let dropped = wait::drop_wait(pending.wait);
-    let answer = dropped.answer;
-    let next = beside(dropped.wait, pending);
-    if let Dropped::Refused(r) = answer {
-        return Leaving {
+    match test(breaker, list) {
+        Tested::Refused(r) => Leaving {
             answer: Dropped::Refused(r),
             breaker,
-            pending: next,
-        };
-    }
-    let aborted = abort_as(breaker, list, pending.ticket, false);
-    let left = aborted.breaker;
-    Leaving {
-        answer,
-        breaker: left,
-        pending: next,
+            pending,
+        },
+        Tested::Sound => {
+            let dropped = wait::drop_wait(pending.wait);
+            let answer = dropped.answer;
+            let next = with_wait(dropped.wait, pending);
+            match answer {
+                Dropped::Refused(_r) => Leaving {
+                    answer,
+                    breaker,
+                    pending: next,
+                },
+                Dropped::GiveBack(_n) => Leaving {
+                    answer,
+                    breaker: abort_locked(breaker, pending.ticket, false),
+                    pending: next,
+                },
+            }
+        }
     }
 }

@@ -1,65 +1,76 @@
 -- `waiting::calls::drop_pending` meets its contract: the tests, the wait's own drop, and the abort. Assumes nothing.
-use mathlib.Core.Path.{_≡_, refl, sym, ap, _∙_}
+use mathlib.Core.Path.{_≡_, sym, ap, _∙_}
+use mathlib.Core.Bool.{true}
 use borrow.Author.Needs.{needs}
-use borrow.Author.Tests.{not-true, not-false}
+use Rattle.breaker.specs.Record.{sound}
+use Rattle.breaker.proofs.Guard.{tested-sound}
+use mathlib.Core.List.{[], _∷_}
+use Rattle.error.specs.Told.{tell}
 use Rattle.wait.proofs.OneToOne.{dropping-one}
-use Rattle.waiting.proofs.Steps.{drop-storage, drop-unsound, drop-refused, drop-gives}
+use Rattle.waiting.proofs.Steps.{aborted, drop-tested, drop-refused, drop-gives}
 use Rattle.waiting.proofs.calls.drop_pending.Statement.{statement}
 use Rattle.waiting.proofs.calls.drop_pending.Tie as tie
 
-returns : tie.Need-returns
-returns c = drop-storage (c .before .before .args .breaker) (c .before .before .args .list .now) (c .before .before .args .pending) (c .if1 .taken)
+sound-now : (c : tie.After-enum-told) → sound (c .before .before .before .before .before .args .breaker) (c .before .before .before .before .before .args .list .now) ≡ true
+sound-now c = tested-sound (c .before .before .before .before .before .args .breaker) (c .before .before .before .before .before .args .list .now) (sym (c .enum-told .given .1) ∙ c .before .before .test .ensures)
 
-is-sound-requires : tie.Need-is-sound-requires
-is-sound-requires c κs = search needs
+test-requires : tie.Need-test-requires
+test-requires c κs = search needs
 
-same-length : tie.Need-same-length
-same-length c = search needs
-
-returns-2 : tie.Need-returns-2
-returns-2 c = drop-unsound (c .before .before .before .before .before .args .breaker) (c .before .before .before .before .before .args .list .now) (c .before .before .before .before .before .args .pending) (c .before .before .before .if1 .left) (sym (c .before .is-sound .ensures) ∙ not-true (c .before .is-sound .result) (c .if2 .taken))
-
-drop-wait-requires : tie.Need-drop-wait-requires
-drop-wait-requires c κs = search needs
-
-beside-requires : tie.Need-beside-requires
-beside-requires c κs = search needs
-
-enum-known-answer : tie.Need-enum-known-answer
-enum-known-answer c = search needs
-
-same-length-2 : tie.Need-same-length-2
-same-length-2 c = search needs
-
-returns-3 : tie.Need-returns-3
-returns-3 c = drop-refused (c .before .before .before .before .before .before .before .before .before .before .args .breaker) (c .before .before .before .before .before .before .before .before .before .before .args .list .now) (c .before .before .before .before .before .before .before .before .before .before .args .pending) (sym (c .before .before .before .before .before .before .is-sound .ensures) ∙ not-false (c .before .before .before .before .before .before .is-sound .result) (c .before .before .before .before .before .if2 .left)) (c .before .before .before .before .drop-wait .result) (dropping-one _ _ (c .before .before .before .before .drop-wait .ensures)) (c .before .before .before .beside .result) (c .before .before .before .beside .ensures) (c .before .answer .given .0 .0) (c .before .answer .given .1)
+enum-known-r : tie.Need-enum-known-r
+enum-known-r c = search needs
 
 enum-told : tie.Need-enum-told
 enum-told c = search needs
 
-abort-as-requires : tie.Need-abort-as-requires
-abort-as-requires c κs = search needs
+drop-wait-requires : tie.Need-drop-wait-requires
+drop-wait-requires c κs = search needs
+
+with-wait-requires : tie.Need-with-wait-requires
+with-wait-requires c κs = search needs
+
+enum-known-answer : tie.Need-enum-known-answer
+enum-known-answer c = search needs
+
+enum-known-answer-2 : tie.Need-enum-known-answer-2
+enum-known-answer-2 c = search needs
+
+abort-locked-requires : tie.Need-abort-locked-requires
+abort-locked-requires c κs = search needs
+
+same-length : tie.Need-same-length
+same-length c = search needs
+
+returns : tie.Need-returns
+returns c = drop-tested (c .before .before .before .before .before .before .args .breaker) (c .before .before .before .before .before .before .args .list .now) (c .before .before .before .before .before .before .args .pending) (c .before .r .given .0 .0) (sym (c .before .r .given .1) ∙ c .before .before .before .test .ensures)
+
+same-length-2 : tie.Need-same-length-2
+same-length-2 c = search needs
+
+returns-2 : tie.Need-returns-2
+returns-2 c = drop-refused (c .before .before .before .before .before .before .before .before .before .before .args .breaker) (c .before .before .before .before .before .before .before .before .before .before .args .list .now) (c .before .before .before .before .before .before .before .before .before .before .args .pending) (sound-now (c .before .before .before .before .before)) (c .before .before .before .before .drop-wait .result) (dropping-one _ _ (c .before .before .before .before .drop-wait .ensures)) (c .before .before .before .with-wait .result) (c .before .before .before .with-wait .ensures) (c .before .answer .given .0 .0) (c .before .answer .given .1)
 
 same-length-3 : tie.Need-same-length-3
 same-length-3 c = search needs
 
-returns-4 : tie.Need-returns-4
-returns-4 c = drop-gives (c .before .before .before .before .before .before .before .before .before .before .before .before .before .before .args .breaker) (c .before .before .before .before .before .before .before .before .before .before .before .before .before .before .args .list .now) (c .before .before .before .before .before .before .before .before .before .before .before .before .before .before .args .pending) (sym (c .before .before .before .before .before .before .before .before .before .before .is-sound .ensures) ∙ not-false (c .before .before .before .before .before .before .before .before .before .before .is-sound .result) (c .before .before .before .before .before .before .before .before .before .if2 .left)) (c .before .before .before .before .before .before .before .before .drop-wait .result) (dropping-one _ _ (c .before .before .before .before .before .before .before .before .drop-wait .ensures)) (c .before .before .before .before .before .before .before .beside .result) (c .before .before .before .before .before .before .before .beside .ensures) (c .before .before .before .before .before .enum-told .given .0 .0) _ (c .before .before .before .abort-as .result .breaker) _ (c .before .before .before .before .before .enum-told .given .1) (c .before .before .before .abort-as .ensures)
+returns-3 : tie.Need-returns-3
+returns-3 c = drop-gives (c .before .before .before .before .before .before .before .before .before .before .before .args .breaker) (c .before .before .before .before .before .before .before .before .before .before .before .args .list .now) (c .before .before .before .before .before .before .before .before .before .before .before .args .pending) (sound-now (c .before .before .before .before .before .before)) (c .before .before .before .before .before .drop-wait .result) (dropping-one _ _ (c .before .before .before .before .before .drop-wait .ensures)) (c .before .before .before .before .with-wait .result) (c .before .before .before .before .with-wait .ensures) (c .before .before .answer2 .given .0 .0) (c .abort-locked .result) (c .before .before .answer2 .given .1) (aborted (tell 0 (c .before .before .answer2 .given .0 .0 ∷ [])) (c .before .before .before .before .before .before .before .before .before .before .before .args .pending .ticket) (c .before .before .before .before .before .before .before .before .before .before .before .args .breaker) (c .abort-locked .result) (c .before .before .before .before .before .before .before .before .before .before .before .args .list .now) (sound-now (c .before .before .before .before .before .before)) (c .abort-locked .ensures))
 
 pub drop-pending-spec : {M : Type 1} → statement M
 drop-pending-spec =
     tie.close
     (tie.spec
-    returns
-    is-sound-requires
-    same-length
-    returns-2
-    drop-wait-requires
-    beside-requires
-    enum-known-answer
-    same-length-2
-    returns-3
+    test-requires
+    enum-known-r
     enum-told
-    abort-as-requires
+    drop-wait-requires
+    with-wait-requires
+    enum-known-answer
+    enum-known-answer-2
+    abort-locked-requires
+    same-length
+    returns
+    same-length-2
+    returns-2
     same-length-3
-    returns-4)
+    returns-3)

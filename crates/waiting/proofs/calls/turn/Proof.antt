@@ -1,29 +1,31 @@
 -- `waiting::calls::turn` meets its contract: the tests, the wait's own turn, and what its end does. Assumes nothing.
-use mathlib.Core.Path.{_≡_, refl, sym, ap, _∙_}
+use mathlib.Core.Path.{_≡_, sym, ap, _∙_}
+use mathlib.Core.Bool.{true}
 use borrow.Author.Needs.{needs}
-use borrow.Author.Tests.{not-true, not-false}
+use Rattle.breaker.specs.Record.{sound}
+use Rattle.breaker.proofs.Guard.{tested-sound}
 use Rattle.wait.proofs.OneToOne.{turning-one}
-use Rattle.waiting.proofs.Steps.{turn-storage, turn-unsound, turn-next, turn-refused, turn-ends}
+use Rattle.waiting.proofs.Steps.{turn-tested, turn-next, turn-refused, turn-ends}
 use Rattle.waiting.proofs.calls.turn.Statement.{statement}
 use Rattle.waiting.proofs.calls.turn.Tie as tie
 
-returns : tie.Need-returns
-returns c = turn-storage (c .before .before .args .turn) (c .before .before .args .now-ms) (c .before .before .args .capacity) (c .before .before .args .breaker) (c .before .before .args .list .now) (c .before .before .args .pending) (c .if1 .taken)
+sound-now : (c : tie.After-enum-told) → sound (c .before .before .before .before .before .args .breaker) (c .before .before .before .before .before .args .list .now) ≡ true
+sound-now c = tested-sound (c .before .before .before .before .before .args .breaker) (c .before .before .before .before .before .args .list .now) (sym (c .enum-told .given .1) ∙ c .before .before .test .ensures)
 
-is-sound-requires : tie.Need-is-sound-requires
-is-sound-requires c κs = search needs
+test-requires : tie.Need-test-requires
+test-requires c κs = search needs
 
-same-length : tie.Need-same-length
-same-length c = search needs
+enum-known-r : tie.Need-enum-known-r
+enum-known-r c = search needs
 
-returns-2 : tie.Need-returns-2
-returns-2 c = turn-unsound (c .before .before .before .before .before .args .turn) (c .before .before .before .before .before .args .now-ms) (c .before .before .before .before .before .args .capacity) (c .before .before .before .before .before .args .breaker) (c .before .before .before .before .before .args .list .now) (c .before .before .before .before .before .args .pending) (c .before .before .before .if1 .left) (sym (c .before .is-sound .ensures) ∙ not-true (c .before .is-sound .result) (c .if2 .taken))
+enum-told : tie.Need-enum-told
+enum-told c = search needs
 
 turn-requires : tie.Need-turn-requires
 turn-requires c κs = search needs
 
-beside-requires : tie.Need-beside-requires
-beside-requires c κs = search needs
+with-wait-requires : tie.Need-with-wait-requires
+with-wait-requires c κs = search needs
 
 enum-known-answer : tie.Need-enum-known-answer
 enum-known-answer c = search needs
@@ -35,43 +37,50 @@ enum-known-answer-3 : tie.Need-enum-known-answer-3
 enum-known-answer-3 c = search needs
 
 complete-requires : tie.Need-complete-requires
-complete-requires c κs = (sym (c .before .before .before .before .before .before .before .is-sound .ensures) ∙ not-false (c .before .before .before .before .before .before .before .is-sound .result) (c .before .before .before .before .before .before .if2 .left))
+complete-requires c κs = (sound-now (c .before .before .before .before .before .before))
+
+same-length : tie.Need-same-length
+same-length c = search needs
+
+returns : tie.Need-returns
+returns c = turn-tested (c .before .before .before .before .before .before .args .turn) (c .before .before .before .before .before .before .args .now-ms) (c .before .before .before .before .before .before .args .capacity) (c .before .before .before .before .before .before .args .breaker) (c .before .before .before .before .before .before .args .list .now) (c .before .before .before .before .before .before .args .pending) (c .before .r .given .0 .0) (sym (c .before .r .given .1) ∙ c .before .before .before .test .ensures)
 
 same-length-2 : tie.Need-same-length-2
 same-length-2 c = search needs
 
-returns-3 : tie.Need-returns-3
-returns-3 c = turn-next (c .before .before .before .before .before .before .before .before .before .before .args .turn) (c .before .before .before .before .before .before .before .before .before .before .args .now-ms) (c .before .before .before .before .before .before .before .before .before .before .args .capacity) (c .before .before .before .before .before .before .before .before .before .before .args .breaker) (c .before .before .before .before .before .before .before .before .before .before .args .list .now) (c .before .before .before .before .before .before .before .before .before .before .args .pending) (sym (c .before .before .before .before .before .before .is-sound .ensures) ∙ not-false (c .before .before .before .before .before .before .is-sound .result) (c .before .before .before .before .before .if2 .left)) (c .before .before .before .before .turn .result) (turning-one _ _ (c .before .before .before .before .turn .ensures)) (c .before .before .before .beside .result) (c .before .before .before .beside .ensures) (c .before .answer .given .0 .0) (c .before .answer .given .1)
+returns-2 : tie.Need-returns-2
+returns-2 c = turn-next (c .before .before .before .before .before .before .before .before .before .before .args .turn) (c .before .before .before .before .before .before .before .before .before .before .args .now-ms) (c .before .before .before .before .before .before .before .before .before .before .args .capacity) (c .before .before .before .before .before .before .before .before .before .before .args .breaker) (c .before .before .before .before .before .before .before .before .before .before .args .list .now) (c .before .before .before .before .before .before .before .before .before .before .args .pending) (sound-now (c .before .before .before .before .before)) (c .before .before .before .before .turn .result) (turning-one _ _ (c .before .before .before .before .turn .ensures)) (c .before .before .before .with-wait .result) (c .before .before .before .with-wait .ensures) (c .before .answer .given .0 .0) (c .before .answer .given .1)
 
 same-length-3 : tie.Need-same-length-3
 same-length-3 c = search needs
 
-returns-4 : tie.Need-returns-4
-returns-4 c = turn-refused (c .before .before .before .before .before .before .before .before .before .before .args .turn) (c .before .before .before .before .before .before .before .before .before .before .args .now-ms) (c .before .before .before .before .before .before .before .before .before .before .args .capacity) (c .before .before .before .before .before .before .before .before .before .before .args .breaker) (c .before .before .before .before .before .before .before .before .before .before .args .list .now) (c .before .before .before .before .before .before .before .before .before .before .args .pending) (sym (c .before .before .before .before .before .before .is-sound .ensures) ∙ not-false (c .before .before .before .before .before .before .is-sound .result) (c .before .before .before .before .before .if2 .left)) (c .before .before .before .before .turn .result) (turning-one _ _ (c .before .before .before .before .turn .ensures)) (c .before .before .before .beside .result) (c .before .before .before .beside .ensures) (c .before .answer2 .given .0 .0) (c .before .answer2 .given .1)
+returns-3 : tie.Need-returns-3
+returns-3 c = turn-refused (c .before .before .before .before .before .before .before .before .before .before .args .turn) (c .before .before .before .before .before .before .before .before .before .before .args .now-ms) (c .before .before .before .before .before .before .before .before .before .before .args .capacity) (c .before .before .before .before .before .before .before .before .before .before .args .breaker) (c .before .before .before .before .before .before .before .before .before .before .args .list .now) (c .before .before .before .before .before .before .before .before .before .before .args .pending) (sound-now (c .before .before .before .before .before)) (c .before .before .before .before .turn .result) (turning-one _ _ (c .before .before .before .before .turn .ensures)) (c .before .before .before .with-wait .result) (c .before .before .before .with-wait .ensures) (c .before .answer2 .given .0 .0) (c .before .answer2 .given .1)
 
 same-length-4 : tie.Need-same-length-4
 same-length-4 c = search needs
 
-returns-5 : tie.Need-returns-5
-returns-5 c = turn-ends (c .before .before .before .before .before .before .before .before .before .before .before .before .before .before .before .args .turn) (c .before .before .before .before .before .before .before .before .before .before .before .before .before .before .before .args .now-ms) (c .before .before .before .before .before .before .before .before .before .before .before .before .before .before .before .args .capacity) (c .before .before .before .before .before .before .before .before .before .before .before .before .before .before .before .args .breaker) (c .before .before .before .before .before .before .before .before .before .before .before .before .before .before .before .args .list .now) (c .before .before .before .before .before .before .before .before .before .before .before .before .before .before .before .args .pending) (sym (c .before .before .before .before .before .before .before .before .before .before .before .is-sound .ensures) ∙ not-false (c .before .before .before .before .before .before .before .before .before .before .before .is-sound .result) (c .before .before .before .before .before .before .before .before .before .before .if2 .left)) (c .before .before .before .before .before .before .before .before .before .turn .result) (turning-one _ _ (c .before .before .before .before .before .before .before .before .before .turn .ensures)) (c .before .before .before .before .before .before .before .before .beside .result) (c .before .before .before .before .before .before .before .before .beside .ensures) (c .before .before .before .before .before .before .answer3 .given .0 .0) _ (c .before .before .before .before .before .before .answer3 .given .1) (c .before .before .before .complete .ensures)
+returns-4 : tie.Need-returns-4
+returns-4 c = turn-ends (c .before .before .before .before .before .before .before .before .before .before .before .before .before .args .turn) (c .before .before .before .before .before .before .before .before .before .before .before .before .before .args .now-ms) (c .before .before .before .before .before .before .before .before .before .before .before .before .before .args .capacity) (c .before .before .before .before .before .before .before .before .before .before .before .before .before .args .breaker) (c .before .before .before .before .before .before .before .before .before .before .before .before .before .args .list .now) (c .before .before .before .before .before .before .before .before .before .before .before .before .before .args .pending) (sound-now (c .before .before .before .before .before .before .before .before)) (c .before .before .before .before .before .before .before .turn .result) (turning-one _ _ (c .before .before .before .before .before .before .before .turn .ensures)) (c .before .before .before .before .before .before .with-wait .result) (c .before .before .before .before .before .before .with-wait .ensures) (c .before .before .before .before .answer3 .given .0 .0) _ (c .before .before .before .before .answer3 .given .1) (c .before .complete .ensures)
 
 pub turn-spec : {M : Type 1} → statement M
 turn-spec =
     tie.close
     (tie.spec
-    returns
-    is-sound-requires
-    same-length
-    returns-2
+    test-requires
+    enum-known-r
+    enum-told
     turn-requires
-    beside-requires
+    with-wait-requires
     enum-known-answer
     enum-known-answer-2
     enum-known-answer-3
     complete-requires
+    same-length
+    returns
     same-length-2
-    returns-3
+    returns-2
     same-length-3
-    returns-4
+    returns-3
     same-length-4
-    returns-5)
+    returns-4)
