@@ -4,7 +4,7 @@ use mathlib.Core.Bool.{Bool, true, false}
 use mathlib.Core.List.{List, [], _∷_}
 use Prim.Native.Nat.{ℕ}
 use native.Mathlib.Omega.{arith}
-use Rattle.error.specs.Told.{Told, tell}
+use Rattle.error.specs.Told.{Told, tell, nothing}
 use Rattle.history.specs.Items.{padded}
 use Rattle.trip.specs.declared.Config.{Config}
 use Rattle.breaker.specs.declared.Ticket.{Ticket}
@@ -19,8 +19,7 @@ use Rattle.error.specs.Choice.{if_then_else_}
 use Rattle.breaker.specs.Record.{Settings, State, settings, state, stored, sound}
 use Rattle.breaker.specs.Answers.{delayValues, delayOf, ticketValues, decisionValues, reservationValues}
 use Rattle.breaker.specs.Rules.{Outcome, Admitted, granted, shed, admit, admitAs, viaTrait, noted, sheds, finish, aborting, outcome}
-use Rattle.breaker.specs.Calls.{After, after, kept, answered, admission, tryInner, tryAdmit, handedOn, isAcquired, retry, acquireInner, acquireCost, isReserved, reserveInner, reserve, peekInner, peek, availableInner, available}
-use Rattle.breaker.specs.Orders.{nothing}
+use Rattle.breaker.specs.Calls.{After, after, kept, answered, admission, tryInner, tryAdmit, handedOn, isAcquired, retry, acquireInner, acquireCost, isReserved, reserveInner, reserve, peeked, peek, available}
 use Rattle.steps.specs.Steps.{entry, Holds}
 use Rattle.breaker.proofs.Cases.{admit-cases}
 use Rattle.steps.proofs.Holding.{holds}
@@ -159,21 +158,19 @@ module _ (reading : ℕ) (b : Breaker) (s : List ℕ) (ok : sound b s ≡ true) 
   -- ---- peek and available
   pub peeked-shed : (inner : Decision) (d : Delay) → Shed d ≡ entry c plain → tell 0 (decisionValues (Retry d)) ≡ peek inner reading (settings c) st
   peeked-shed inner d e =
-      entered-shed c d plain e (λ ms q r. ap (λ (x : Delay). tell 0 (decisionValues (Retry x))) r ∙ ap (peekInner inner) (sym q))
+      entered-shed c d plain e (λ ms q r. ap (λ (x : Delay). tell 0 (decisionValues (Retry x))) r ∙ ap (λ (x : Admitted). tell 0 (decisionValues (peeked inner x))) (sym q))
 
   pub peeked-granted : (inner : Decision) (t : Ticket) (next : Breaker) → Granted t next ≡ entry c plain → tell 0 (decisionValues inner) ≡ peek inner reading (settings c) st
-  peeked-granted inner t next e = entered-granted c t next plain e (λ st′ q r. ap (peekInner inner) (sym q))
+  peeked-granted inner t next e = entered-granted c t next plain e (λ st′ q r. ap (λ (x : Admitted). tell 0 (decisionValues (peeked inner x))) (sym q))
 
-  none-shed : (v : Bool) (count ms : ℕ) → 0 ≡ availableInner v count (shed ms)
-  none-shed true count ms = refl
-  none-shed false count ms = refl
+  -- the count by what a peek comes to
+  abbrev counts : Decision → ℕ → Admitted → Told
+  counts inner count a = tell 0 ((if isAcquired (peeked inner a) then count else 0) ∷ [])
 
   pub counted-shed : (inner : Decision) (count : ℕ) (d : Delay) → Shed d ≡ entry c plain → tell 0 (0 ∷ []) ≡ available inner count reading (settings c) st
-  counted-shed inner count d e =
-      entered-shed c d plain e
-      (λ ms q r. ap (λ (n : ℕ). tell 0 (n ∷ [])) (none-shed (isAcquired inner) count ms ∙ ap (availableInner (isAcquired inner) count) (sym q)))
+  counted-shed inner count d e = entered-shed c d plain e (λ ms q r. ap (counts inner count) (sym q))
 
-  pub counted-granted : (inner : Decision) (count n : ℕ) (t : Ticket) (next : Breaker) → Granted t next ≡ entry c plain
-      → ((st′ : State) → availableInner (isAcquired inner) count (granted t st′) ≡ n) → tell 0 (n ∷ []) ≡ available inner count reading (settings c) st
+  pub counted-granted : (inner : Decision) (count n : ℕ) (t : Ticket) (next : Breaker) → Granted t next ≡ entry c plain → (if isAcquired inner then count else 0) ≡ n
+      → tell 0 (n ∷ []) ≡ available inner count reading (settings c) st
   counted-granted inner count n t next e f =
-      entered-granted c t next plain e (λ st′ q r. ap (λ (m : ℕ). tell 0 (m ∷ [])) (sym (f st′) ∙ ap (availableInner (isAcquired inner) count) (sym q)))
+      entered-granted c t next plain e (λ st′ q r. ap (λ (m : ℕ). tell 0 (m ∷ [])) (sym f) ∙ ap (counts inner count) (sym q))

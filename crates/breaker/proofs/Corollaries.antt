@@ -5,11 +5,11 @@ use mathlib.Core.Bool.{Bool, true, false}
 use mathlib.Core.List.{List, [], _∷_, _++_, tail, List·Permᴰ}
 use lib.ListN.{length, take, drop}
 use Rattle.error.specs.Choice.{if_then_else_}
-use Rattle.error.specs.Told.{Told}
+use Rattle.error.specs.Told.{Told, nothing}
 use Rattle.breaker.specs.declared.Breaker.{Breaker}
 use Rattle.breaker.specs.Record.{settings, state}
 use Rattle.breaker.specs.Rules.{Call}
-use Rattle.breaker.specs.Orders.{known, onlyKnown, nothing, first, putBack, AllOf, Harmless, Equal, inTurn, FinishingOrders}
+use Rattle.breaker.specs.Orders.{known, onlyKnown, first, putBack, AllOf, Harmless, Equal, inTurn, FinishingOrders}
 
 abbrev insert : ℕ → Told → List Told → List Told
 insert n a l = take n l ++ (a ∷ drop n l)

@@ -4,11 +4,11 @@ use mathlib.Core.Path.{_≡_, refl, ap}
 use mathlib.Core.Bool.{Bool, true, false}
 use mathlib.Core.List.{List, [], _∷_}
 use lib.Dec.{eqb}
-use Rattle.error.specs.Choice.{if_then_else_}
+use Rattle.error.specs.Choice.{if_then_else_, bit}
 use Rattle.error.specs.Told.{Told}
 use Rattle.error.specs.declared.Refusal.{Refusal}
+use Rattle.error.proofs.Choice.{bit-back}
 use Rattle.error.proofs.OneToOne.{one, read, read-refused, at}
-use Rattle.history.specs.Change.{bit}
 use Rattle.breaker.specs.declared.Ticket.{Ticket}
 use Rattle.breaker.specs.declared.Delay.{Delay}
 use Rattle.breaker.specs.declared.Admission.{Admission}
@@ -35,11 +35,6 @@ use Rattle.breaker.specs.Answers.{delayOf, admissionTold, finishedTold, 
 
 abbrev pub ticketIn : List ℕ → Ticket
 ticketIn vs = record { generation = at vs 0; probe = eqb (at vs 1) 1 }
-
--- a bit is read back
-pub bit-back : (p : Bool) → eqb (bit p) 1 ≡ p
-bit-back true = refl
-bit-back false = refl
 
 pub ticket-back : (t : Ticket) → ticketIn (t .generation ∷ bit (t .probe) ∷ []) ≡ t
 ticket-back t = ap (λ (p : Bool). record { generation = t .generation; probe = p }) (bit-back (t .probe))

@@ -12,16 +12,20 @@ use mathlib.Core.Bool.{Bool, true, false, _||_, true≢false}
 use mathlib.Core.List.{List, [], _∷_, _++_, List·Permᴰ, List·Permᴰ·nil, List·Permᴰ·cons, List·Permᴰ·swap, List·Permᴰ·trans, Permᴰ·refl}
 use lib.Dec.{eqb, leb}
 use borrow.Author.Tests.{eq-eqb, ne-eqb, eqb-true, eqb-false, leb-true, leb-false, le-leb, lt-leb}
+use Rattle.error.specs.Told.{nothing}
 use Rattle.error.specs.Choice.{if_then_else_}
 use Rattle.history.specs.Items.{padded}
 use Rattle.breaker.specs.declared.Ticket.{Ticket}
 use Rattle.breaker.specs.declared.Breaker.{Breaker}
 use Rattle.breaker.specs.Record.{Settings, State, Closed, HalfOpen, Open, settings, state, stored}
 use Rattle.breaker.specs.Rules.{done, next, opening, closing, counting, Call, success, failure, abort, traitAbort, ticket, probes, inHalfOpen, inClosed, act, finish}
-use Rattle.breaker.specs.Orders.{Ran, run, succeeds, fails, many, AllOf, known, onlyKnown, nothing, putBack, Harmless, Equal, Theorem}
+use Rattle.breaker.specs.Orders.{Ran, run, succeeds, fails, many, AllOf, known, onlyKnown, putBack, Harmless, Equal, Theorem}
 use Rattle.error.proofs.Choice.{if-cases}
 use Rattle.breaker.proofs.Cases.{finish-cases, failure-cases}
-use Rattle.breaker.proofs.Record.{sound→, shared→}
+use Rattle.breaker.specs.Calls.{kept}
+use Rattle.breaker.proofs.Record.{sound→, shared→, state-stored}
+use Rattle.breaker.proofs.Keeps.{sound-run, sound-state}
+use Rattle.breaker.proofs.Guard.{sound-done}
 
 -- ---- the counters and the generation of a state
 counting-none : (st : State) → counting 0 0 0 st ≡ st
@@ -285,6 +289,10 @@ finishing-orders reading b p ok h =
     record {
       none = run-nil s reading st;
       in-turn = λ cs c. run-snoc s reading cs c st;
+      as-calls = λ cs c.
+          let u = run s reading cs st .after in
+          sym (sound-done (λ x y. finish x reading c y) (stored (b .config) u) (padded (u .list)) (sound-run (b .config) reading cs st (sound-state b p ok)))
+          ∙ ap (λ (y : State). kept (b .config) (finish s reading c y)) (state-stored (b .config) u);
       orders-agree = λ cs a. (
         λ all. only-harmless s reading st h k cs a (λ ds d. ap (λ (x : Breaker). x .shared .state) (all ds d .every-field)),
         λ p ds d. equal b _ _ (agree s reading cs ds st a h k p d),

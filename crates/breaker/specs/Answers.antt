@@ -1,8 +1,8 @@
 -- "What a caller is told": for each answer enum, document 01's number and values of each case.
 use Prim.Native.Nat.{ℕ}
 use mathlib.Core.List.{List, [], _∷_}
-use Rattle.error.specs.Told.{Told, tell, refused}
-use Rattle.history.specs.Change.{bit}
+use Rattle.error.specs.Told.{Told, tell, nothing, refused}
+use Rattle.error.specs.Choice.{bit}
 use Rattle.breaker.specs.declared.Ticket.{Ticket}
 use Rattle.breaker.specs.declared.Delay.{Delay}
 use Rattle.breaker.specs.declared.Admission.{Admission}
@@ -39,11 +39,13 @@ delayOf ms = record { ms = ms }
 abbrev pub delayValues : Delay → List ℕ
 delayValues d = d .ms ∷ []
 
+-- the kind of a reply (1 acquired, 2 retry, 3 impossible), and a retry's delay
 abbrev pub decisionValues : Decision → List ℕ
 decisionValues Decision·is.Acquired = 1 ∷ []
 decisionValues (Decision·is.Retry d) = 2 ∷ delayValues d
 decisionValues Decision·is.Impossible = 3 ∷ []
 
+-- 1 and the wait, or 0 for none
 abbrev pub reservationValues : Reservation → List ℕ
 reservationValues (Reservation·is.Wait d) = 1 ∷ delayValues d
 reservationValues Reservation·is.Nothing = 0 ∷ []
@@ -51,26 +53,29 @@ reservationValues Reservation·is.Nothing = 0 ∷ []
 -- ---- the answers
 
 -- "breaker sheds (`CircuitOpen`) | 6 | delay ms"
+abbrev pub shedTold : Delay → Told
+shedTold d = tell 6 (delayValues d)
+
 abbrev pub admissionTold : Admission → Told
 admissionTold (Admission·is.Granted t) = tell 0 (ticketValues t)
-admissionTold (Admission·is.Shed d) = tell 6 (delayValues d)
+admissionTold (Admission·is.Shed d) = shedTold d
 admissionTold (Admission·is.Refused r) = refused r
 
 abbrev pub finishedTold : Finished → Told
-finishedTold Finished·is.Done = tell 0 []
+finishedTold Finished·is.Done = nothing
 finishedTold (Finished·is.Refused r) = refused r
 
 -- "inner says retry (`Ok(None)`) | 7", "inner impossible (`CostExceedsCapacity`) | 8 | cost 1, capacity"
 abbrev pub triedTold : Tried → Told
 triedTold (Tried·is.Granted t) = tell 0 (ticketValues t)
-triedTold (Tried·is.Shed d) = tell 6 (delayValues d)
+triedTold (Tried·is.Shed d) = shedTold d
 triedTold Tried·is.Retry = tell 7 []
 triedTold (Tried·is.Impossible cost capacity) = tell 8 (cost ∷ capacity ∷ [])
 triedTold (Tried·is.Refused r) = refused r
 
 abbrev pub standingTold : Standing → Told
-standingTold Standing·is.Admits = tell 0 []
-standingTold (Standing·is.Shed d) = tell 6 (delayValues d)
+standingTold Standing·is.Admits = nothing
+standingTold (Standing·is.Shed d) = shedTold d
 standingTold (Standing·is.Refused r) = refused r
 
 -- a notice to refund so much to the inner limiter

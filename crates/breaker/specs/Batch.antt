@@ -1,12 +1,11 @@
 -- A batch: a sequence of finishing calls given as slices, and what it leaves. Definitions only.
 use Prim.Native.Nat.{ℕ, zero, suc}
-use mathlib.Core.Bool.{Bool, true, false, not, _&&_}
+use mathlib.Core.Bool.{Bool, false, not, _&&_}
 use mathlib.Core.List.{List, [], _∷_, _++_, map}
 use lib.Dec.{eqb}
 use lib.ListN.{length, getD}
 use Rattle.error.specs.Choice.{if_then_else_}
 use Rattle.error.specs.Told.{Told, refused}
-use Rattle.error.specs.declared.Refusal.{Refusal}
 use Rattle.error.specs.declared.Refusal.the-variants.{Storage}
 use Rattle.breaker.specs.declared.Ticket.{Ticket}
 use Rattle.breaker.specs.declared.Breaker.{Breaker}

@@ -1,4 +1,4 @@
--- The entry points: each tests 3 and 4, and then does what its rule says. Definitions only.
+-- The entry points: each tests 3 and 4 (making a breaker: 3, 1, 2), and then does what its rule says. Definitions only.
 use Prim.Native.Nat.{ℕ}
 use mathlib.Core.Bool.{Bool, true, false, not}
 use mathlib.Core.List.{List, [], _∷_}
@@ -17,12 +17,14 @@ use Rattle.trip.specs.Settings.{builtOf}
 use Rattle.trip.specs.Policy.{Policy, Consecutive, Ratio, Windowed, boardFigure}
 use Rattle.breaker.specs.declared.Ticket.{Ticket}
 use Rattle.breaker.specs.declared.Breaker.{Breaker}
+use Rattle.breaker.specs.declared.Admission.the-variants as Admission·is
+use Rattle.breaker.specs.declared.Tried.the-variants as Tried·is
 use Rattle.breaker.specs.declared.Decision.{Decision}
 use Rattle.breaker.specs.declared.Decision.the-variants.{Acquired, Retry, Impossible}
 use Rattle.breaker.specs.declared.Reservation.{Reservation}
 use Rattle.breaker.specs.declared.Reservation.the-variants.{Wait, Nothing}
 use Rattle.breaker.specs.Record.{Settings, State, Closed, settings, state, stored, sound}
-use Rattle.breaker.specs.Answers.{ticketValues, decisionValues, reservationValues, delayOf}
+use Rattle.breaker.specs.Answers.{decisionValues, reservationValues, admissionTold, triedTold, delayOf}
 use Rattle.breaker.specs.Rules.{Outcome, outcome, done, Admitted, granted, shed, admit, admitAs, finish, abort, traitAbort, settling, aborting, released, sheds}
 
 -- ---- what a call leaves: what it told, the record, and every place
@@ -69,18 +71,18 @@ built builder b s = if not (eqb (length s) 4096) then after (refused Storage) b 
 -- ---- admission
 
 abbrev pub answered : Admitted → State → Outcome
-answered (granted t next) st = outcome (tell 0 (ticketValues t)) next
+answered (granted t next) st = outcome (admissionTold (Admission·is.Granted t)) next
 answered (shed ms) st = outcome (sheds ms) st
 
 abbrev pub admission : Bool → ℕ → Settings → State → Outcome
 admission trait reading s st = answered (admitAs trait s reading st) st
 
--- `try_admit`: the inner limiter was asked for 1; "For 6 to 9 "aborted" is the abort above; a transition made by the admission stays."
+-- `try_admit`: the inner limiter was asked for 1; "ticket aborted", "a transition made by the admission stays"
 abbrev pub tryInner : Decision → ℕ → ℕ → Settings → Admitted → State → Outcome
-tryInner Acquired capacity reading s (granted t next) st = outcome (tell 0 (ticketValues t)) next
-tryInner (Retry d) capacity reading s (granted t next) st = outcome (tell 7 []) (finish s reading (abort t) next .after)
-tryInner Impossible capacity reading s (granted t next) st = outcome (tell 8 (1 ∷ capacity ∷ [])) (finish s reading (abort t) next .after)
-tryInner inner capacity reading s (shed ms) st = outcome (sheds ms) st
+tryInner Acquired capacity reading s (granted t next) st = answered (granted t next) st
+tryInner (Retry d) capacity reading s (granted t next) st = outcome (triedTold Tried·is.Retry) (finish s reading (abort t) next .after)
+tryInner Impossible capacity reading s (granted t next) st = outcome (triedTold (Tried·is.Impossible 1 capacity)) (finish s reading (abort t) next .after)
+tryInner inner capacity reading s (shed ms) st = answered (shed ms) st
 
 abbrev pub tryAdmit : Decision → ℕ → ℕ → Settings → State → Outcome
 tryAdmit inner capacity reading s st = tryInner inner capacity reading s (admit s reading st) st
@@ -132,31 +134,26 @@ abbrev pub reserve : Reservation → ℕ → Settings → State → Outcome
 reserve inner reading s st = reserveInner inner reading s (admitAs true s reading st) st
 
 -- "Peek refuses as an admission would, changes nothing, else hands on the inner limiter's answer."
-abbrev pub peekInner : Decision → Admitted → Told
-peekInner inner (granted t next) = tell 0 (decisionValues inner)
-peekInner inner (shed ms) = retry ms
+abbrev pub peeked : Decision → Admitted → Decision
+peeked inner (granted t next) = inner
+peeked inner (shed ms) = Retry (delayOf ms)
 
 abbrev pub peek : Decision → ℕ → Settings → State → Told
-peek inner reading s st = peekInner inner (admit s reading st)
+peek inner reading s st = tell 0 (decisionValues (peeked inner (admit s reading st)))
 
 -- "Available is the inner count if a peek of cost 0 is acquired, else 0."
-abbrev pub availableInner : Bool → ℕ → Admitted → ℕ
-availableInner true count (granted t next) = count
-availableInner false count (granted t next) = 0
-availableInner inner count (shed ms) = 0
-
 abbrev pub available : Decision → ℕ → ℕ → Settings → State → Told
-available inner count reading s st = tell 0 (availableInner (isAcquired inner) count (admit s reading st) ∷ [])
+available inner count reading s st = tell 0 ((if isAcquired (peeked inner (admit s reading st)) then count else 0) ∷ [])
 
 -- the trait refund, with its notice to the inner limiter in every state
 abbrev pub refund : ℕ → Settings → State → Outcome
 refund cost s st = outcome (tell 0 (cost ∷ [])) (released st)
 
--- ---- the board figure of a breaker
+-- ---- the board figure: "0 for … another policy"
 
 abbrev pub figure : Policy → List ℕ → ℕ
 figure (Consecutive n) xs = 0
-figure (Ratio window ratio least) xs = boardFigure 2 (failures xs) (length xs)
+figure (Ratio window ratio least) xs = boardFigure (failures xs) (length xs)
 figure (Windowed limit period) xs = 0
 
 abbrev pub board : Settings → State → Told

@@ -1,4 +1,4 @@
--- What a reader of the breaker's promises has to believe, in the order of document 01's sections.
+-- What a reader of the breaker's promises has to believe, each file citing those above it.
 pub mod Record
 pub mod Answers
 pub mod Rules

@@ -8,10 +8,11 @@ use mathlib.Core.Bool.{Bool, true, _||_}
 use mathlib.Core.List.{List, [], _∷_, _++_, tail, List·Permᴰ}
 use lib.Dec.{eqb}
 use Rattle.error.specs.Choice.{if_then_else_}
-use Rattle.error.specs.Told.{Told, tell}
+use Rattle.error.specs.Told.{Told, nothing}
 use Rattle.history.specs.Items.{padded}
 use Rattle.breaker.specs.declared.Breaker.{Breaker}
 use Rattle.breaker.specs.Record.{Settings, State, Closed, HalfOpen, Open, settings, state, stored, sound}
+use Rattle.breaker.specs.Calls.{kept, onSound}
 use Rattle.breaker.specs.Rules.{next, Call, success, failure, abort, traitAbort, ticket, finish}
 
 -- ---- a sequence, in turn: each call gets what the last one left
@@ -60,9 +61,6 @@ abbrev pub onlyKnown : ℕ → List Call → List Call
 onlyKnown g [] = []
 onlyKnown g (c ∷ cs) = if known g c then c ∷ onlyKnown g cs else onlyKnown g cs
 
-abbrev pub nothing : Told
-nothing = tell 0 []
-
 abbrev pub first : List Told → Told
 first [] = nothing
 first (a ∷ told) = a
@@ -92,12 +90,16 @@ abbrev pub SomeOrderEnds : ℕ → Breaker → List ℕ → List Call → ℕ �
 SomeOrderEnds reading b places cs x = (ds : List Call) × List·Permᴰ cs ds × (inTurn reading b places ds .after .state ≡ x)
 
 pub record FinishingOrders (reading : ℕ) (b : Breaker) (places : List ℕ) : Type 0 where
-  -- In turn: no call leaves the start, and one call more is the rule's step from where the others ended.
+  -- In turn: the empty sequence ends at its start, and one call more is the rule's step from where the others ended.
   pub none : inTurn reading b places [] ≡ record { after = state b places; answers = [] }
   pub in-turn : (cs : List Call) (c : Call) →
       let r = inTurn reading b places cs in
       let o = finish (settings (b .config)) reading c (r .after) in
       inTurn reading b places (cs ++ (c ∷ [])) ≡ record { after = o .after; answers = r .answers ++ (o .told ∷ []) }
+  -- A call made on the record and places that the others left is not refused by 3 or 4, and leaves what that step says.
+  pub as-calls : (cs : List Call) (c : Call) →
+      let st = inTurn reading b places cs .after in
+      onSound (λ s x. finish s reading c x) (stored (b .config) st) (padded (st .list)) ≡ kept (b .config) (finish (settings (b .config)) reading c st)
   -- On permits of this spell all orders end equal exactly when the calls are harmless.
   pub orders-agree : (cs : List Call) → AllOf (b .shared .generation) cs →
       ((ds : List Call) → List·Permᴰ cs ds → Equal b (inTurn reading b places ds .after) (inTurn reading b places cs .after))

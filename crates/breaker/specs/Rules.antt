@@ -2,18 +2,17 @@
 -- Definitions only.
 use Prim.Native.Nat.{ℕ, _+_, _-_, _%_, _^_, min}
 use mathlib.Core.Bool.{Bool, true, false, _&&_, _||_}
-use mathlib.Core.List.{List, [], _∷_, _++_}
+use mathlib.Core.List.{List, []}
 use lib.Dec.{leb, ltb, eqb}
-use lib.ListN.{length}
-use Rattle.error.specs.Choice.{if_then_else_}
-use Rattle.error.specs.Told.{Told, tell, refused}
+use Rattle.error.specs.Choice.{if_then_else_, bit}
+use Rattle.error.specs.Told.{Told, nothing, refused}
 use Rattle.error.specs.declared.Refusal.the-variants.{Full}
-use Rattle.history.specs.Items.{newest, evicted}
-use Rattle.history.specs.Change.{bit, full}
+use Rattle.history.specs.Items.{cutoffOf, withOutcome, withTime, withoutExpired}
+use Rattle.history.specs.Change.{full}
 use Rattle.trip.specs.Policy.{Policy, Consecutive, Ratio, Windowed, tripped}
 use Rattle.breaker.specs.declared.Ticket.{Ticket}
 use Rattle.breaker.specs.Record.{Settings, State, Closed, HalfOpen, Open}
-use Rattle.breaker.specs.Answers.{delayOf, delayValues}
+use Rattle.breaker.specs.Answers.{delayOf, shedTold}
 
 -- what a call does: what it tells, and the state after it
 pub record Outcome : Type 0 where
@@ -25,7 +24,7 @@ outcome t st = record { told = t; after = st }
 
 -- nothing to tell
 abbrev pub done : State → Outcome
-done st = outcome (tell 0 []) st
+done st = outcome nothing st
 
 -- ---- the three kinds of change to a state
 
@@ -133,9 +132,9 @@ ticket (traitAbort t) = t
 abbrev pub probes : Ticket → ℕ
 probes t = bit (t .probe)
 
--- places and trait probes less by so many, successes more
+-- inflight and trait probes less by so many, successes more
 abbrev pub counting : ℕ → ℕ → ℕ → State → State
-counting places traits good st = withCounts (st .inflight - places) (st .traitProbes - traits) (st .successes + good) st
+counting trials traits good st = withCounts (st .inflight - trials) (st .traitProbes - traits) (st .successes + good) st
 
 -- "HalfOpen: a probe takes 1 from inflight, not below 0; a success adds 1 to successes, and at the required number the counters and lists
 -- are emptied and the state is Closed; a failure opens." "Abort: only a probe …; inflight −1, through the trait side trait probes −1 too"
@@ -148,15 +147,15 @@ inHalfOpen s reading (traitAbort t) st = counting (probes t) (probes t) 0 st
 -- "the policy records"
 abbrev pub recorded : Policy → Bool → ℕ → List ℕ → List ℕ
 recorded (Consecutive n) failed reading xs = xs
-recorded (Ratio window ratio least) failed reading xs = newest window (xs ++ bit failed ∷ [])
-recorded (Windowed limit period) true reading xs = evicted (reading - period) (xs ++ reading ∷ [])
-recorded (Windowed limit period) false reading xs = evicted (reading - period) xs
+recorded (Ratio window ratio least) failed reading xs = withOutcome window (bit failed) xs
+recorded (Windowed limit period) true reading xs = withTime reading period xs
+recorded (Windowed limit period) false reading xs = withoutExpired reading period xs
 
 -- number 5's cause
 abbrev pub noRoom : Policy → ℕ → List ℕ → Bool
 noRoom (Consecutive n) reading xs = false
 noRoom (Ratio window ratio least) reading xs = false
-noRoom (Windowed limit period) reading xs = full (reading - period) xs
+noRoom (Windowed limit period) reading xs = full (cutoffOf reading period) xs
 
 -- "Closed: success zeroes the run of failures, failure adds 1, capped; the policy records; a failure may trip."
 unfoldable pub inClosed : Settings → ℕ → Call → State → Outcome
@@ -192,15 +191,19 @@ aborting t false = abort t
 
 -- ---- the other calls
 
+-- "in HalfOpen with trait probes > 0"
+abbrev pub hasTraitProbe : State → Bool
+hasTraitProbe st = eqb (st .state) HalfOpen && ltb 0 (st .traitProbes)
+
 -- "Trait refund: in HalfOpen with trait probes > 0, both −1, inflight not below 0."
 unfoldable pub released : State → State
-released st = if eqb (st .state) HalfOpen && ltb 0 (st .traitProbes) then counting 1 1 0 st else st
+released st = if hasTraitProbe st then counting 1 1 0 st else st
 
 -- "A manual outcome uses up one trait probe if there is one and then acts as a settle of the current generation, as a probe only if it
 -- used one up."
 unfoldable pub manual : Settings → ℕ → Bool → State → Outcome
 manual s reading good st =
-    if eqb (st .state) HalfOpen && ltb 0 (st .traitProbes) then finish s reading (settling (ticketOf st true) good) (counting 0 1 0 st)
+    if hasTraitProbe st then finish s reading (settling (ticketOf st true) good) (counting 0 1 0 st)
     else finish s reading (settling (ticketOf st false) good) st
 
 -- "Reset empties all counters and both lists, then goes Closed; from Closed too the generation moves. Open-until is kept."
@@ -209,11 +212,11 @@ reset st = done (closing st)
 
 -- number 6 with its delay
 abbrev pub sheds : ℕ → Told
-sheds ms = tell 6 (delayValues (delayOf ms))
+sheds ms = shedTold (delayOf ms)
 
 -- "`still_admits`: yes for an equal generation or for Closed; otherwise open-until − reading (not below 0) in Open, 0 in HalfOpen."
 unfoldable pub stillAdmits : ℕ → Ticket → State → Told
 stillAdmits reading t st =
-    if eqb (t .generation) (st .generation) || eqb (st .state) Closed then tell 0 []
+    if eqb (t .generation) (st .generation) || eqb (st .state) Closed then nothing
     else if eqb (st .state) Open then sheds (st .openUntil - reading)
     else sheds 0

@@ -1,7 +1,7 @@
 // Each answer as plain numbers: document 01's number, and its values with zeros for those it has not.
 ghost use mathlib.Core.Path.{_≡_};
+ghost use Rattle.error.specs.Choice.{bit};
 ghost use Rattle.error.specs.Told.{refused};
-ghost use Rattle.history.specs.Change.{bit};
 ghost use Rattle.breaker.specs.Answers.{admissionTold, finishedTold, triedTold, standingTold, noticeTold, decisionValues, decidedTold, reservedTold, countedTold};
 ghost use Rattle.capi.specs.Crossing.{packed};
 use crate::Told;

@@ -24,7 +24,7 @@ module _ (c : Config) (st : State) where
       go false e = rw (e, ne-eqb _ _ n)
 
   pub board-ratio : c .kind ≡ 2 → (failed calls : ℕ) → failed ≡ failures (st .list) → calls ≡ length (st .list)
-      → tell 0 (boardFigure 2 failed calls ∷ []) ≡ board (settings c) st
+      → tell 0 (boardFigure failed calls ∷ []) ≡ board (settings c) st
   board-ratio k failed calls f l =
       let n : c .kind ≡ 1 → ⊥ = λ z. omega arith in
       ap (λ (m : ℕ). tell 0 (m ∷ [])) (rw (f, l, is-ratio c n k))

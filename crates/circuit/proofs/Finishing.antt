@@ -10,13 +10,13 @@ use lib.Dec.{leb, eqb}
 use lib.ListN.{length}
 use lib.Ieee.{binary64, ofBits}
 use borrow.Author.Tests.{eq-eqb, ne-eqb, le-leb, lt-leb, lt-ltb, le-ltb}
-use Rattle.error.specs.Choice.{if_then_else_}
-use Rattle.error.specs.Told.{Told, tell}
+use Rattle.error.specs.Choice.{if_then_else_, bit}
+use Rattle.error.specs.Told.{Told, tell, nothing}
 use Rattle.error.specs.declared.Refusal.the-variants.{Full}
 use Rattle.history.specs.declared.Items.{Items}
 use Rattle.history.specs.declared.Items.the-variants.{Nothing, Outcomes, Times}
 use Rattle.history.specs.Items.{view, padded, soundList, failures, recent, total, evicted}
-use Rattle.history.specs.Change.{Left, left, held, refuse, bit, full, pushedOutcome, pushedTime, evictedTimes}
+use Rattle.history.specs.Change.{Left, left, held, refuse, full, pushedOutcome, pushedTime, evictedTimes}
 use Rattle.history.proofs.Sound.{view-padded}
 use Rattle.history.proofs.Held.{outcome-held, time-held, time-full, evict-held, failures-le, failures-held}
 use Rattle.trip.specs.declared.Config.{Config}
@@ -26,7 +26,6 @@ use Rattle.breaker.specs.declared.Breaker.{Breaker}
 use Rattle.breaker.specs.Record.{Settings, State, HalfOpen, Closed, settings, stored, itemsOf, sound}
 use Rattle.breaker.specs.Rules.{Outcome, done, counting, withCounts, opening, closing, inHalfOpen, act, finish, settling, aborting, released, success, failure, abort, traitAbort}
 use Rattle.breaker.specs.Calls.{After, after, kept}
-use Rattle.breaker.specs.Orders.{nothing}
 use Rattle.steps.specs.Steps.{Holds}
 use Rattle.circuit.specs.Locked.{recording}
 use Rattle.breaker.proofs.Record.{sound→}

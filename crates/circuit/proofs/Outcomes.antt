@@ -8,7 +8,7 @@ use native.Mathlib.Omega.{arith}
 use lib.ListN.{length, getD}
 use borrow.Author.Tests.{le-leb, lt-leb}
 use Rattle.error.specs.Choice.{if_then_else_}
-use Rattle.error.specs.Told.{Told, tell, refused}
+use Rattle.error.specs.Told.{Told, tell, refused, nothing}
 use Rattle.error.specs.declared.Refusal.{Refusal}
 use Rattle.error.specs.declared.Refusal.the-variants.{Full}
 use Rattle.error.proofs.OneToOne.{no-refusal}
@@ -21,7 +21,6 @@ use Rattle.breaker.specs.declared.Breaker.{Breaker}
 use Rattle.breaker.specs.Record.{State, settings, stored, sound}
 use Rattle.breaker.specs.Rules.{done, probes, withCounts, withHistory, opening, closing, recorded, noRoom, inHalfOpen, inClosed, settling}
 use Rattle.breaker.specs.Calls.{after, kept}
-use Rattle.breaker.specs.Orders.{nothing}
 use Rattle.steps.specs.Steps.{Holds}
 use Rattle.circuit.specs.Locked.{recording}
 use Rattle.breaker.proofs.Keeps.{SoundAt, sound-history, sound-recorded}

@@ -9,7 +9,7 @@ use lib.Dec.{eqb}
 use lib.ListN.{length, drop, set, getD, length-append, drop-of-length-le}
 use lib.Seq.{drop-cons, append-snoc, set-at}
 use Rattle.error.specs.Choice.{if_then_else_}
-use Rattle.error.specs.Told.{Told, refused}
+use Rattle.error.specs.Told.{Told, refused, nothing}
 use Rattle.error.specs.declared.Refusal.{Refusal}
 use Rattle.error.specs.declared.Refusal.the-variants.{Storage}
 use Rattle.history.specs.Items.{padded}
@@ -20,7 +20,7 @@ use Rattle.breaker.specs.declared.Tested.the-variants.{Sound, Refused}
 use Rattle.breaker.specs.Record.{Settings, State, settings, state, stored, sound}
 use Rattle.breaker.specs.Rules.{Call, Outcome, done, finish, settling, aborting}
 use Rattle.breaker.specs.Calls.{After, after, kept, guarded}
-use Rattle.breaker.specs.Orders.{Ran, run, inTurn, nothing}
+use Rattle.breaker.specs.Orders.{Ran, run, inTurn}
 use Rattle.breaker.specs.Batch.{Slices, callBy, callAt, callsTo, calls, Batch, batch, numbers, alike, finishedAll}
 use Rattle.steps.specs.Steps.{Holds}
 use Rattle.breaker.proofs.Guard.{guarded-refused, guarded-done}

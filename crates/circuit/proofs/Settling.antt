@@ -7,6 +7,7 @@ use native.Mathlib.Nat.{sub-zero, add-zero}
 use native.Mathlib.Omega.{arith}
 use lib.Dec.{eqb, ltb}
 use borrow.Author.Tests.{eq-eqb, ne-eqb, lt-ltb, le-ltb}
+use Rattle.error.specs.Told.{nothing}
 use Rattle.error.specs.Choice.{if_then_else_}
 use Rattle.history.specs.Items.{padded}
 use Rattle.trip.specs.declared.Config.{Config}
@@ -15,7 +16,6 @@ use Rattle.breaker.specs.declared.Breaker.{Breaker}
 use Rattle.breaker.specs.Record.{Settings, State, HalfOpen, Closed, settings, stored, sound}
 use Rattle.breaker.specs.Rules.{Outcome, done, Call, ticket, ticketOf, probes, counting, withCounts, inHalfOpen, inClosed, act, finish, settling, aborting, abort, traitAbort, released, manual}
 use Rattle.breaker.specs.Calls.{after, kept}
-use Rattle.breaker.specs.Orders.{nothing}
 use Rattle.steps.specs.Steps.{Holds}
 use Rattle.breaker.proofs.Keeps.{SoundAt, sound-counts}
 use Rattle.breaker.proofs.Record.{sound→, shared→}

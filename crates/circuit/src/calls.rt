@@ -117,7 +117,7 @@ pub fn board(breaker: Breaker, list: &[u64]) -> Counted
                 return Counted::Count(0);
             }
             let failed = history::count_failures(list, h.len) as u32;
-            Counted::Count(trip::board_figure(2, failed, h.len))
+            Counted::Count(trip::board_figure(failed, h.len))
         }
     }
 }

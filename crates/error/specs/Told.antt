@@ -1,6 +1,6 @@
--- "What a caller is told": the table of document 01.
+-- "What a caller is told": how an answer is told, and the refusals 1 to 5 and 11. Rows 6 to 10 stand in specs/Answers of breaker, wait and waiting.
 use Prim.Native.Nat.{ℕ}
-use mathlib.Core.List.{List, [], _∷_}
+use mathlib.Core.List.{List, []}
 use Rattle.error.specs.declared.Refusal.{Refusal}
 use Rattle.error.specs.declared.Refusal.the-variants.{Time, Limit, Storage, Unsound, Full, Turn}
 
@@ -11,6 +11,10 @@ pub record Told : Type 0 where
 
 abbrev pub tell : ℕ → List ℕ → Told
 tell n vs = record { number = n; values = vs }
+
+-- nothing refused, and nothing returned
+abbrev pub nothing : Told
+nothing = tell 0 []
 
 -- "Cause" and "Number"
 abbrev pub numberOf : Refusal → ℕ

@@ -1,14 +1,14 @@
-// What a caller is told when a call is refused (error.rs of the Rust; the numbers are document 01's).
+// Why a call is refused: rows 1 to 5 and 11 of document 01's table, which the Rust doesn't have.
 ghost use mathlib.Core.Path.{_≡_};
 ghost use Rattle.error.specs.Told.{numberOf};
 
-// Why a call was refused, with nothing changed.
+// Why a call was refused: record and list are as they were.
 pub enum Refusal {
     // 1: a nanoseconds field of 10^9 or more, or a wait's time over its bound
     Time,
     // 2: the normalised window or failures over 4,096
     Limit,
-    // 3: storage of other than 4,096 places, or turns that are no multiple of 8
+    // 3: storage of other than 4,096 places, turns that are no multiple of 8, or slices of a batch of unequal length
     Storage,
     // 4: the record or the list is not sound
     Unsound,

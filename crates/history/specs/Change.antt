@@ -1,9 +1,9 @@
 -- What a call that changes the list answers, and what it leaves in every place.
 use Prim.Native.Nat.{ℕ, _-_, max}
-use mathlib.Core.Bool.{Bool, true, false, not}
+use mathlib.Core.Bool.{Bool, not}
 use mathlib.Core.List.{List, [], _∷_, _++_}
 use lib.ListN.{length, drop, replicate}
-use lib.Dec.{leb, ltb, eqb}
+use lib.Dec.{leb, eqb}
 use Rattle.error.specs.Choice.{if_then_else_}
 use Rattle.error.specs.Told.{Told, tell, refused}
 use Rattle.error.specs.declared.Refusal.{Refusal}
@@ -12,7 +12,7 @@ use Rattle.history.specs.declared.Items.{Items}
 use Rattle.history.specs.declared.Items.the-variants.{Outcomes, Times}
 use Rattle.history.specs.declared.Changed.{Changed}
 use Rattle.history.specs.declared.Changed.the-variants.{Stored, Refused}
-use Rattle.history.specs.Items.{view, padded, fits, newest, evicted}
+use Rattle.history.specs.Items.{view, padded, fits, evicted, cutoffOf, withOutcome, withTime, withoutExpired}
 
 -- the number of document 01's table, 0 for a change that was made, with the new length
 abbrev pub told : Changed → Told
@@ -27,7 +27,7 @@ pub record Left : Type 0 where
 abbrev pub left : Told → List ℕ → Left
 left a s = record { answer = a; places = s }
 
--- the list xs laid over the n items in s: what they leave free holds 0, and places past both are as they were
+-- the list xs laid over the n items in s: places of the n items past xs hold 0, and places past both are as they were
 abbrev pub laid : ℕ → List ℕ → List ℕ → List ℕ
 laid n xs s = xs ++ (replicate (n - length xs) 0 ++ drop (max n (length xs)) s)
 
@@ -43,36 +43,31 @@ held xs = left (told (Stored (length xs))) (padded xs)
 abbrev pub refuse : Refusal → List ℕ → Left
 refuse r s = left (told (Refused r)) s
 
--- 3 for storage of other than 4,096 places, then 4 for a length that a list of the kind can't have, else the change
+-- 3 for storage of other than 4,096 places, then 4 for a length that a list of the kind can't have (for Ratio none, where the window is 0 or
+-- over 4,096), else the change
 abbrev pub onList : Items → ℕ → List ℕ → Left → Left
 onList items n s change =
     if not (eqb (length s) 4096) then refuse Storage s
     else if not (fits items n) then refuse Unsound s
     else change
 
--- Ratio: an outcome is appended, and the newest `window` stay
+-- Ratio: an outcome is recorded
 unfoldable pub pushedOutcome : ℕ → ℕ → ℕ → List ℕ → Left
-pushedOutcome window o n s = onList (Outcomes window) n s (become (newest window (view n s ++ o ∷ [])) n s)
-
--- 1 failed, 0 good
-abbrev pub bit : Bool → ℕ
-bit true = 1
-bit false = 0
+pushedOutcome window o n s = onList (Outcomes window) n s (become (withOutcome window o (view n s)) n s)
 
 -- number 5's cause: "4,096 older times left after eviction"
 abbrev pub full : ℕ → List ℕ → Bool
 full cutoff xs = leb 4096 (length (evicted cutoff xs))
 
--- Windowed, a failure: "cutoff = reading − period, not below 0. A failure's reading is appended; then times at the front below the cutoff go."
+-- Windowed: a failure is recorded, where there is room
 unfoldable pub pushedTime : ℕ → ℕ → ℕ → List ℕ → Left
 pushedTime reading period n s =
     onList Times n s
-    (if full (reading - period) (view n s) then refuse Full s
-    else become (evicted (reading - period) (view n s ++ reading ∷ [])) n s)
+    (if full (cutoffOf reading period) (view n s) then refuse Full s else become (withTime reading period (view n s)) n s)
 
--- "A success evicts too."
+-- Windowed: a success is recorded
 unfoldable pub evictedTimes : ℕ → ℕ → ℕ → List ℕ → Left
-evictedTimes reading period n s = onList Times n s (become (evicted (reading - period) (view n s)) n s)
+evictedTimes reading period n s = onList Times n s (become (withoutExpired reading period (view n s)) n s)
 
 -- the list is emptied
 unfoldable pub cleared : ℕ → List ℕ → Left

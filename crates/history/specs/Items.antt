@@ -1,7 +1,7 @@
 -- "The list lies in lent storage of 4,096 places, oldest first from place 0: outcomes (1 failed, 0 good) for Ratio, readings for
 -- Windowed, empty for Consecutive; places past its length hold 0."
-use Prim.Native.Nat.{ℕ, suc, _+_, _-_}
-use mathlib.Core.Bool.{Bool, true, false, _&&_}
+use Prim.Native.Nat.{ℕ, _+_, _-_}
+use mathlib.Core.Bool.{Bool, true, _&&_}
 use mathlib.Core.List.{List, [], _∷_, _++_}
 use lib.ListN.{length, take, drop, replicate}
 use lib.Dec.{leb, ltb, eqb}
@@ -63,3 +63,21 @@ newest window xs = drop (length xs - window) xs
 unfoldable pub evicted : ℕ → List ℕ → List ℕ
 evicted cutoff [] = []
 evicted cutoff (t ∷ ts) = if ltb t cutoff then evicted cutoff ts else t ∷ ts
+
+-- ---- what a policy records
+
+-- "cutoff = reading − period, not below 0"
+abbrev pub cutoffOf : ℕ → ℕ → ℕ
+cutoffOf reading period = reading - period
+
+-- Ratio: the outcome is appended, and "the newest `window` outcomes" stay
+abbrev pub withOutcome : ℕ → ℕ → List ℕ → List ℕ
+withOutcome window o xs = newest window (xs ++ o ∷ [])
+
+-- Windowed: "A failure's reading is appended; then times at the front below the cutoff go."
+abbrev pub withTime : ℕ → ℕ → List ℕ → List ℕ
+withTime reading period xs = evicted (cutoffOf reading period) (xs ++ reading ∷ [])
+
+-- "A success evicts too."
+abbrev pub withoutExpired : ℕ → ℕ → List ℕ → List ℕ
+withoutExpired reading period xs = evicted (cutoffOf reading period) xs

@@ -5,8 +5,9 @@ ghost use Prim.Native.Nat.{ℕ, _+_, _-_, _≤_, _<_, _^_, _%_, min};
 ghost use lib.ListN.{length, take, drop, replicate};
 ghost use mathlib.Core.List.{[], _∷_, _++_};
 ghost use lib.Dec.{ltb};
-ghost use Rattle.history.specs.Items.{view, allBelow, fits, soundList, total, recent, newest, evicted};
-ghost use Rattle.history.specs.Change.{laid, left, told, bit, pushedOutcome, pushedTime, evictedTimes, cleared};
+ghost use Rattle.error.specs.Choice.{bit};
+ghost use Rattle.history.specs.Items.{view, allBelow, fits, soundList, total, recent, evicted, cutoffOf};
+ghost use Rattle.history.specs.Change.{laid, left, told, pushedOutcome, pushedTime, evictedTimes, cleared};
 use error::Refusal;
 
 // What the list of a breaker holds, by its policy.
@@ -297,7 +298,7 @@ pub fn push_outcome(list: &mut [u64], len: u32, window: u32, failed: bool) -> Ch
 // The reading from which on a failure counts.
 // Ruled out: a difference that wraps; the period taken from the wrong side.
 pub fn cutoff(reading: u64, period: u64) -> u64
-    ensures { λ r. ⌜ r ≡ reading - period ⌝ }
+    ensures { λ r. ⌜ r ≡ cutoffOf reading period ⌝ }
 {
     if reading < period {
         return 0;
@@ -319,15 +320,15 @@ fn first_recent(s: &[u64], cutoff: u64) -> usize
     i
 }
 
-// How many of the n oldest readings are before the cutoff.
+// How many readings at the front of the n are before the cutoff: those ahead of the first that isn't.
 fn expired(list: &[u64], n: usize, reading: u64, period: u64) -> usize
     requires { ⌜ n ≤ length (now list) ⌝ }
-    ensures { λ r. ⌜ (drop r (take n (now (list .entry))) ≡ evicted (reading - period) (take n (now (list .entry)))) × (r ≤ n) ⌝ }
+    ensures { λ r. ⌜ (drop r (take n (now (list .entry))) ≡ evicted (cutoffOf reading period) (take n (now (list .entry)))) × (r ≤ n) ⌝ }
 {
     first_recent(&list[..n], cutoff(reading, period))
 }
 
-// Appends a failure's reading, and drops the oldest while they are before the cutoff. Where 4,096 older ones would be left nothing is done.
+// Appends a failure's reading, and drops the oldest while they are before the cutoff. Where 4,096 older ones would be left, nothing is done.
 // Ruled out: one that evicts a reading equal to the cutoff; one that keeps the eviction where it refuses.
 pub fn push_time(list: &mut [u64], len: u32, reading: u64, period: u64) -> Changed
     ensures { λ r. ⌜ left (told r) (now (list .exit)) ≡ pushedTime reading period len (now (list .entry)) ⌝ }

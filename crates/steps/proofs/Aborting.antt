@@ -6,6 +6,7 @@ use native.Mathlib.Nat.{sub-zero, add-zero}
 use native.Mathlib.Omega.{arith}
 use lib.Dec.{eqb, ltb}
 use borrow.Author.Tests.{eq-eqb, ne-eqb, lt-ltb, le-ltb}
+use Rattle.error.specs.Told.{nothing}
 use Rattle.error.specs.Choice.{if_then_else_}
 use Rattle.history.specs.Items.{padded}
 use Rattle.trip.specs.declared.Config.{Config}
@@ -14,7 +15,6 @@ use Rattle.breaker.specs.declared.Breaker.{Breaker}
 use Rattle.breaker.specs.Record.{Settings, State, HalfOpen, Closed, settings, stored}
 use Rattle.breaker.specs.Rules.{Outcome, done, ticket, probes, counting, withCounts, inClosed, act, finish, aborting, released}
 use Rattle.breaker.specs.Calls.{after, kept}
-use Rattle.breaker.specs.Orders.{nothing}
 
 -- ---- abort
 counting-none : (st : State) → counting 0 0 0 st ≡ st

@@ -1,12 +1,12 @@
 // An admission given back, and a trial freed.
 ghost use mathlib.Core.Path.{_≡_};
 ghost use Prim.Native.Nat.{ℕ};
+ghost use Rattle.error.specs.Told.{nothing};
 ghost use Rattle.history.specs.Items.{padded};
 ghost use Rattle.trip.specs.declared.Config.{Config};
 ghost use Rattle.breaker.specs.Record.{State, settings, stored};
 ghost use Rattle.breaker.specs.Rules.{finish, aborting, released};
 ghost use Rattle.breaker.specs.Calls.{after, kept};
-ghost use Rattle.breaker.specs.Orders.{nothing};
 use crate::update::one_less;
 use crate::update::with_counts;
 use breaker::Breaker;

@@ -1,6 +1,6 @@
 -- "Policies and settings": durations, normalising, and the settings of a record.
 use Prim.Native.Nat.{ℕ, _+_, _-_, _*_, _/_, _%_, _^_, min, max}
-use mathlib.Core.Bool.{Bool, true, false, not, _&&_}
+use mathlib.Core.Bool.{Bool, true, false, not}
 use mathlib.Core.List.{List, [], _∷_}
 use lib.IntN.{pos}
 use lib.Dec.{ltb}
@@ -24,7 +24,7 @@ abbrev pub millisTold : Millis → Told
 millisTold (Whole ms) = tell 0 (ms ∷ [])
 millisTold (Refused r) = refused r
 
--- number 1's cause: "nanoseconds field ≥ 10^9"
+-- whether it is a time; if not, number 1: "nanoseconds field ≥ 10^9"
 abbrev pub isTime : Duration → Bool
 isTime d = ltb (d .nanos) 1000000000
 
@@ -61,10 +61,10 @@ normalisedRatio window ratio least = record { window = max window 1; ratio = cla
 -- "n, window, failures at least 1"
 abbrev pub normalisedTrip : Trip → Trip
 normalisedTrip (Consecutive n) = Consecutive (max n 1)
-normalisedTrip (Ratio window ratio least) = Ratio (max window 1) (clampedRatio ratio) (min least (max window 1))
+normalisedTrip (Ratio window ratio least) = let r = normalisedRatio window ratio least in Ratio (r .window) (r .ratio) (r .«min_calls»)
 normalisedTrip (Windowed failures period) = Windowed (max failures 1) period
 
--- ---- the settings of a record: "kind, n or window or failures, ratio bits, min calls, period ms, cooldown ms, trials, required"
+-- ---- the settings of a record: kind, n or window or failures, ratio bits, min calls, period ms, cooldown ms, trials, required
 
 abbrev pub configValues : Config → List ℕ
 configValues c =
@@ -74,7 +74,7 @@ abbrev pub builtTold : Built → Told
 builtTold (Made c) = tell 0 (configValues c)
 builtTold (NotMade r) = refused r
 
--- number 1 for a policy's own duration
+-- whether a policy's own duration, if it has one, is a time
 abbrev pub periodIsTime : Trip → Bool
 periodIsTime (Consecutive n) = true
 periodIsTime (Ratio window ratio least) = true

@@ -4,7 +4,7 @@ ghost use Prim.Native.Nat.{min, max};
 ghost use lib.Dec.{leb};
 ghost use lib.Ieee.{binary64, ofBits};
 ghost use Rattle.trip.specs.Settings.{millisTold, millisOf, ofMillis, clampedRatio, normalisedRatio, normalisedTrip, builtTold, settingsOf, builtOf, defaultBuilder, withTrip, withCooldown, withHalfOpen};
-ghost use Rattle.trip.specs.Policy.{ratioReached, boardFigure};
+ghost use Rattle.trip.specs.Policy.{runReached, ratioReached, timesReached, boardFigure};
 use error::Refusal;
 
 // Whole seconds and the nanoseconds past them.
@@ -319,7 +319,7 @@ impl CircuitBreakerBuilder {
 // Whether a run of failures trips Consecutive.
 // Ruled out: `>` for `>=`; a trip at any failure.
 pub fn run_trips(run: u32, n: u32) -> bool
-    ensures { λ r. ⌜ r ≡ leb n run ⌝ }
+    ensures { λ r. ⌜ r ≡ runReached run n ⌝ }
 {
     run >= n
 }
@@ -345,19 +345,16 @@ pub fn ratio_trips(failed: u32, calls: u32, min_calls: u32, ratio_bits: u64) -> 
 // Whether so many recent failures trip Windowed.
 // Ruled out: `>` for `>=`; a trip one failure early.
 pub fn times_trip(recent: u32, failures: u32) -> bool
-    ensures { λ r. ⌜ r ≡ leb failures recent ⌝ }
+    ensures { λ r. ⌜ r ≡ timesReached recent failures ⌝ }
 {
     recent >= failures
 }
 
-// The board figure of a policy's list: failures in a thousand calls, for Ratio.
+// The board figure of a Ratio list: failures in a thousand calls.
 // Ruled out: a division by 0 of an empty list; a figure rounded up.
-pub fn board_figure(kind: u8, failed: u32, calls: u32) -> u64
-    ensures { λ r. ⌜ r ≡ boardFigure kind failed calls ⌝ }
+pub fn board_figure(failed: u32, calls: u32) -> u64
+    ensures { λ r. ⌜ r ≡ boardFigure failed calls ⌝ }
 {
-    if kind != 2 {
-        return 0;
-    }
     if calls == 0 {
         return 0;
     }

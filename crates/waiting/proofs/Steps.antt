@@ -7,7 +7,7 @@ use lib.Dec.{eqb}
 use lib.ListN.{length}
 use borrow.Author.Tests.{eq-eqb, ne-eqb}
 use Rattle.error.specs.Choice.{if_then_else_}
-use Rattle.error.specs.Told.{Told, tell, refused}
+use Rattle.error.specs.Told.{Told, tell, refused, nothing}
 use Rattle.error.specs.declared.Refusal.{Refusal}
 use Rattle.error.specs.declared.Refusal.the-variants.{Storage}
 use Rattle.error.proofs.OneToOne.{no-refusal, no-shed}
@@ -25,7 +25,6 @@ use Rattle.breaker.specs.Answers.{ticketValues, delayValues}
 use Rattle.breaker.specs.Rules.{Outcome, outcome, Admitted, granted, shed, admit, admitAs, viaTrait, done, sheds, stillAdmits, finish, aborting}
 use Rattle.breaker.specs.Calls as Breaker·calls
 use Rattle.breaker.specs.Calls.{kept, answered, asked, guarded}
-use Rattle.breaker.specs.Orders.{nothing}
 use Rattle.breaker.proofs.Record.{stored-state, padded-state}
 use Rattle.breaker.proofs.Guard.{guarded-refused, guarded-done, asked-done}
 use Rattle.breaker.proofs.OneToOne.{ticketIn, ticket-back}

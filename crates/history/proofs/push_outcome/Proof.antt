@@ -7,10 +7,11 @@ use native.Mathlib.Omega.{arith}
 use borrow.Author.Needs.{needs}
 use borrow.Author.Tests.{eq-eqb, ne-eqb, not-true, not-false}
 use lib.ListN.{take, drop}
+use Rattle.error.specs.Choice.{bit}
 use Rattle.error.specs.Told.{tell}
 use Rattle.history.specs.declared.Items.the-variants.{Outcomes}
 use Rattle.history.specs.Items.{fits}
-use Rattle.history.specs.Change.{left, laid, bit, pushedOutcome}
+use Rattle.history.specs.Change.{left, laid, pushedOutcome}
 use Rattle.history.proofs.Sound.{fits-outcomes}
 use Rattle.history.proofs.Change.{outcome-done}
 use Rattle.history.proofs.push_outcome.Statement.{statement}

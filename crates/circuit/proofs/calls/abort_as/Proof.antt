@@ -2,10 +2,10 @@
 use mathlib.Core.Path.{_≡_, refl, sym, ap, _∙_}
 use mathlib.Core.Bool.{true}
 use borrow.Author.Needs.{needs}
+use Rattle.error.specs.Told.{nothing}
 use Rattle.breaker.specs.Record.{state, sound}
 use Rattle.breaker.specs.Calls as Calls
 use Rattle.breaker.specs.Rules as Rules
-use Rattle.breaker.specs.Orders.{nothing}
 use Rattle.breaker.proofs.Guard.{tested-sound, sound-refused, sound-done, sound-fields}
 use Rattle.steps.proofs.Holding.{holds}
 use Rattle.circuit.proofs.calls.abort_as.Statement.{statement}

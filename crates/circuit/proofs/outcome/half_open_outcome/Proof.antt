@@ -6,7 +6,7 @@ use native.Mathlib.Nat.{sub-zero}
 use native.Mathlib.Omega.{arith}
 use borrow.Author.Needs.{needs}
 use borrow.Author.Tests.{not-true, not-false}
-use Rattle.history.specs.Change.{bit}
+use Rattle.error.specs.Choice.{bit}
 use Rattle.breaker.proofs.Record.{sound→, shared→}
 use Rattle.circuit.proofs.Outcomes.{half-fails, half-closes, half-counts}
 use Rattle.circuit.proofs.outcome.half_open_outcome.Statement.{statement}
