@@ -1,12 +1,12 @@
--- What a step leaves, from what circuit's or waiting's step left and what was told of it. Assumes nothing.
+-- What a step leaves, from what the call under it left and what was told of it. Assumes nothing.
 use Prim.Native.Nat.{ℕ}
 use mathlib.Core.Path.{_≡_, ap, _∙_}
 use mathlib.Core.Bool.{Bool, true, false}
-use mathlib.Core.List.{List, []}
+use mathlib.Core.List.{List}
 use lib.ListN.{length}
 use borrow.Author.Tests.{eq-eqb, ne-eqb}
-use Rattle.error.specs.Told.{Told as Answer, tell, refused}
-use Rattle.error.specs.declared.Refusal.the-variants.{Storage, Unsound}
+use Rattle.error.specs.Told.{Told as Answer, refused}
+use Rattle.error.specs.declared.Refusal.the-variants.{Storage, Unsound, Turn}
 use Rattle.breaker.specs.declared.Breaker.{Breaker}
 use Rattle.breaker.specs.Record.{Settings, State}
 use Rattle.breaker.specs.Rules.{Outcome}
@@ -43,7 +43,7 @@ module _ (ok : Bool) (b : Breaker) (s : List ℕ) where
   unfolding onReply
   known-reply rule e = simp e
 
-  pub unknown-reply : (rule : Settings → State → Outcome) → ok ≡ false → after (guarded refused (tell 11 []) b s) b s ≡ onReply ok rule b s
+  pub unknown-reply : (rule : Settings → State → Outcome) → ok ≡ false → after (guarded refused (refused Turn) b s) b s ≡ onReply ok rule b s
   unfolding onReply
   unknown-reply rule e = simp e
 
@@ -51,7 +51,7 @@ module _ (ok : Bool) (b : Breaker) (s : List ℕ) where
   unfolding askedReply
   known-asked rule e = simp e
 
-  pub unknown-asked : (rule : Settings → State → Answer) → ok ≡ false → guarded refused (tell 11 []) b s ≡ askedReply ok rule b s
+  pub unknown-asked : (rule : Settings → State → Answer) → ok ≡ false → guarded refused (refused Turn) b s ≡ askedReply ok rule b s
   unfolding askedReply
   unknown-asked rule e = simp e
 

@@ -1,12 +1,12 @@
 -- What crosses to C: an answer as plain numbers, and what the plain numbers that come in mean. Definitions only.
 use Prim.Native.Nat.{ℕ}
 use mathlib.Core.Bool.{Bool, not, _&&_}
-use mathlib.Core.List.{List, [], _∷_}
+use mathlib.Core.List.{List}
 use lib.Dec.{leb, eqb}
-use lib.ListN.{length}
+use lib.ListN.{length, getD}
 use Rattle.error.specs.Choice.{if_then_else_}
-use Rattle.error.specs.Told.{Told as Answer, tell, refused}
-use Rattle.error.specs.declared.Refusal.the-variants.{Storage, Unsound}
+use Rattle.error.specs.Told.{Told as Answer, refused}
+use Rattle.error.specs.declared.Refusal.the-variants.{Storage, Unsound, Turn}
 use Rattle.trip.specs.declared.Trip.{Trip}
 use Rattle.trip.specs.declared.Trip.the-variants.{Consecutive, Ratio, Windowed}
 use Rattle.trip.specs.declared.CircuitBreakerBuilder.{CircuitBreakerBuilder}
@@ -25,18 +25,9 @@ use Rattle.capi.specs.declared.Setting.{Setting}
 
 -- ---- what goes out
 
--- a value, or 0 where there is none
-abbrev pub first : List ℕ → ℕ
-first [] = 0
-first (v ∷ vs) = v
-
-abbrev pub second : List ℕ → ℕ
-second [] = 0
-second (v ∷ vs) = first vs
-
--- the number, and the values in their order; a probe flag is a value of 0 or 1
+-- the number, and the values in their order, 0 where there is none; a probe flag is a value of 0 or 1
 abbrev pub packed : Answer → Told
-packed t = record { number = t .number; v1 = first (t .values); v2 = second (t .values) }
+packed t = record { number = t .number; v1 = getD (t .values) 0 0; v2 = getD (t .values) 1 0 }
 
 -- what a call leaves: what it told, the record, and every place
 pub record Crossing : Type 0 where
@@ -63,7 +54,7 @@ crossedAll x = crossings (crossed (x .left)) (x .answers)
 
 -- ---- replies of the inner limiter that come in
 
--- "reply kind not 1 to 3" is unknown
+-- a reply or a policy has a kind of 1 to 3
 abbrev pub known : ℕ → Bool
 known kind = leb 1 kind && leb kind 3
 
@@ -83,10 +74,10 @@ reservationBy kind ms = if eqb kind 1 then Wait (delayOf ms) else Nothing
 
 -- a call by a reply: "Tested in the order 3, 4, 11"; refused it leaves all as it was
 unfoldable pub onReply : Bool → (Settings → State → Outcome) → Breaker → List ℕ → After
-onReply ok rule b s = if ok then onSound rule b s else after (guarded refused (tell 11 []) b s) b s
+onReply ok rule b s = if ok then onSound rule b s else after (guarded refused (refused Turn) b s) b s
 
 unfoldable pub askedReply : Bool → (Settings → State → Answer) → Breaker → List ℕ → Answer
-askedReply ok rule b s = if ok then asked rule b s else guarded refused (tell 11 []) b s
+askedReply ok rule b s = if ok then asked rule b s else guarded refused (refused Turn) b s
 
 -- ---- a setting that comes in
 

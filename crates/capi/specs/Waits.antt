@@ -1,21 +1,16 @@
 -- What of a wait crosses to C: an answer as plain numbers, and what a call leaves. Definitions only.
 use Prim.Native.Nat.{ℕ}
-use mathlib.Core.List.{List, [], _∷_}
+use mathlib.Core.List.{List}
+use lib.ListN.{getD}
 use Rattle.error.specs.Told.{Told as Answer}
 use Rattle.breaker.specs.declared.Breaker.{Breaker}
 use Rattle.waiting.specs.declared.Pending.{Pending}
 use Rattle.waiting.specs.Calls.{After, Report}
 use Rattle.capi.specs.declared.Waited.{Waited}
-use Rattle.capi.specs.Crossing.{first, second}
 
--- a value, or 0 where there is none
-abbrev pub third : List ℕ → ℕ
-third [] = 0
-third (v ∷ vs) = second vs
-
--- the number, the values in their order, and the turns that a run took
+-- the number, the values in their order, 0 where there is none, and the turns that a run took
 abbrev pub packedWait : Answer → ℕ → Waited
-packedWait t taken = record { number = t .number; v1 = first (t .values); v2 = second (t .values); v3 = third (t .values); taken = taken }
+packedWait t taken = record { number = t .number; v1 = getD (t .values) 0 0; v2 = getD (t .values) 1 0; v3 = getD (t .values) 2 0; taken = taken }
 
 -- what a call leaves: what it told, the record, every place, and the wait with its ticket
 pub record CrossingWait : Type 0 where

@@ -23,7 +23,7 @@ use wait::Observed;
 use waiting::Pending;
 
 // What a caller is told: the number of document 01's table, 0 where the call was not refused,
-// and the values of circuit's specs/Answers in their order, 0 where there is none. A probe flag is a value of 0 or 1.
+// and the values of breaker's specs/Answers in their order, 0 where there is none. A probe flag is a value of 0 or 1.
 #[repr(C)]
 pub struct Told {
     pub number: u32,
@@ -31,7 +31,7 @@ pub struct Told {
     pub v2: u64,
 }
 
-// What a caller of a wait is told: as above, with the values of waiting's specs/Answers, and the turns that a run took.
+// What a caller of a wait is told: as above, with the values of wait's and waiting's specs/Answers, and the turns that a run took.
 #[repr(C)]
 pub struct Waited {
     pub number: u32,

@@ -1,7 +1,7 @@
 // Plain numbers that come in, as the enums they stand for.
 ghost use mathlib.Core.Path.{_≡_};
-ghost use mathlib.Core.List.{[]};
-ghost use Rattle.error.specs.Told.{tell, refused};
+ghost use Rattle.error.specs.Told.{refused};
+ghost use Rattle.error.specs.declared.Refusal.the-variants.{Turn};
 ghost use Rattle.breaker.specs.Calls.{guarded};
 ghost use Rattle.capi.specs.Crossing.{packed, known, decisionBy, reservable, reservationBy, tripBy, builderBy};
 use crate::Setting;
@@ -9,15 +9,17 @@ use crate::Told;
 use crate::tell::tell_refusal;
 use breaker::Breaker;
 use breaker::Decision;
-use breaker::Delay;
 use breaker::Reservation;
+use breaker::Tested;
+use breaker::delayed;
+use breaker::test;
 use error::Refusal;
 use trip::CircuitBreakerBuilder;
 use trip::Duration;
 use trip::Trip;
 
-// Whether a reply or a policy has this kind.
-pub fn is_known(kind: u8) -> bool
+// Whether the kind is one of 1 to 3.
+pub(crate) fn is_known(kind: u8) -> bool
     ensures { λ r. ⌜ r ≡ known kind ⌝ }
 {
     if kind < 1 {
@@ -26,48 +28,41 @@ pub fn is_known(kind: u8) -> bool
     kind <= 3
 }
 
-pub fn decision_by(kind: u8, ms: u64) -> Decision
+pub(crate) fn decision_by(kind: u8, ms: u64) -> Decision
     ensures { λ r. ⌜ r ≡ decisionBy kind ms ⌝ }
 {
     if kind == 1 {
         return Decision::Acquired;
     }
     if kind == 2 {
-        return Decision::Retry(Delay { ms });
+        return Decision::Retry(delayed(ms));
     }
     Decision::Impossible
 }
 
 // Whether a reservation has this kind.
-pub fn is_reservable(kind: u8) -> bool
+pub(crate) fn is_reservable(kind: u8) -> bool
     ensures { λ r. ⌜ r ≡ reservable kind ⌝ }
 {
     kind <= 1
 }
 
-pub fn reservation_by(kind: u8, ms: u64) -> Reservation
+pub(crate) fn reservation_by(kind: u8, ms: u64) -> Reservation
     ensures { λ r. ⌜ r ≡ reservationBy kind ms ⌝ }
 {
     if kind == 1 {
-        return Reservation::Wait(Delay { ms });
+        return Reservation::Wait(delayed(ms));
     }
     Reservation::Nothing
 }
 
 // What a call with an unknown reply is told: 3, 4, then 11.
-pub fn tell_unknown(breaker: Breaker, list: &[u64]) -> Told
-    ensures { λ r. ⌜ r ≡ packed (guarded refused (tell 11 []) breaker (now (list .entry))) ⌝ }
+pub(crate) fn tell_unknown(breaker: Breaker, list: &[u64]) -> Told
+    ensures { λ r. ⌜ r ≡ packed (guarded refused (refused Turn) breaker (now (list .entry))) ⌝ }
 {
-    if list.len() != 4096 {
-        return tell_refusal(Refusal::Storage);
-    }
-    if !breaker::is_sound(breaker, list) {
-        return tell_refusal(Refusal::Unsound);
-    }
-    Told {
-        number: 11,
-        v1: 0,
-        v2: 0,
+    match test(breaker, list) {
+        Tested::Refused(r) => tell_refusal(r),
+        Tested::Sound => tell_refusal(Refusal::Turn),
     }
 }
 
@@ -93,7 +88,7 @@ fn trip_by(setting: Setting) -> Trip
     }
 }
 
-pub fn builder_by(setting: Setting) -> CircuitBreakerBuilder
+pub(crate) fn builder_by(setting: Setting) -> CircuitBreakerBuilder
     ensures { λ r. ⌜ r ≡ builderBy setting ⌝ }
 {
     CircuitBreakerBuilder {

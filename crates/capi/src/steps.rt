@@ -31,7 +31,7 @@ use breaker::Ticket;
 use error::Refusal;
 
 // Ruled out: an unknown kind handed to the builder; a refused build told 0.
-pub fn build_step(breaker: Breaker, list: &mut [u64], setting: Setting) -> Step
+pub(crate) fn build_step(breaker: Breaker, list: &mut [u64], setting: Setting) -> Step
     ensures { λ r. ⌜ crossing (r .answer) (r .breaker) (now (list .exit)) ≡ crossed (builtBy setting breaker (now (list .entry))) ⌝ }
 {
     if !is_known(setting.kind) {
@@ -57,7 +57,12 @@ pub fn build_step(breaker: Breaker, list: &mut [u64], setting: Setting) -> Step
 }
 
 // Ruled out: a shed told without its delay; a probe told with a flag of 0.
-pub fn admit_as_step(breaker: Breaker, list: &mut [u64], now_ms: u64, via_trait: bool) -> Step
+pub(crate) fn admit_as_step(
+    breaker: Breaker,
+    list: &mut [u64],
+    now_ms: u64,
+    via_trait: bool,
+) -> Step
     ensures { λ r. ⌜ crossing (r .answer) (r .breaker) (now (list .exit)) ≡ crossed (onSound (Calls.admission «via_trait» «now_ms») breaker (now (list .entry))) ⌝ }
 {
     let s = admission::admit_as(breaker, list, now_ms, via_trait);
@@ -70,7 +75,7 @@ pub fn admit_as_step(breaker: Breaker, list: &mut [u64], now_ms: u64, via_trait:
 }
 
 // Ruled out: success and failure swapped; a failure that meets 5 told 0.
-pub fn settle_step(
+pub(crate) fn settle_step(
     breaker: Breaker,
     list: &mut [u64],
     now_ms: u64,
@@ -89,7 +94,12 @@ pub fn settle_step(
 }
 
 // Ruled out: a trait abort made a plain one; the record before the abort returned.
-pub fn abort_as_step(breaker: Breaker, list: &mut [u64], ticket: Ticket, via_trait: bool) -> Step
+pub(crate) fn abort_as_step(
+    breaker: Breaker,
+    list: &mut [u64],
+    ticket: Ticket,
+    via_trait: bool,
+) -> Step
     ensures { λ r. ⌜ crossing (r .answer) (r .breaker) (now (list .exit)) ≡ crossed (onSound (Calls.abortAs ticket «via_trait») breaker (now (list .entry))) ⌝ }
 {
     let s = circuit::abort_as(breaker, list, ticket, via_trait);
@@ -102,7 +112,12 @@ pub fn abort_as_step(breaker: Breaker, list: &mut [u64], ticket: Ticket, via_tra
 }
 
 // Ruled out: one that settles a failure; one that cancels.
-pub fn permit_success_step(breaker: Breaker, list: &mut [u64], now_ms: u64, ticket: Ticket) -> Step
+pub(crate) fn permit_success_step(
+    breaker: Breaker,
+    list: &mut [u64],
+    now_ms: u64,
+    ticket: Ticket,
+) -> Step
     ensures { λ r. ⌜ crossing (r .answer) (r .breaker) (now (list .exit)) ≡ crossed (onSound (Calls.settle «now_ms» ticket true) breaker (now (list .entry))) ⌝ }
 {
     let s = circuit::permit_success(breaker, list, now_ms, ticket);
@@ -115,7 +130,12 @@ pub fn permit_success_step(breaker: Breaker, list: &mut [u64], now_ms: u64, tick
 }
 
 // Ruled out: one that settles a success; one that settles at reading 0.
-pub fn permit_failure_step(breaker: Breaker, list: &mut [u64], now_ms: u64, ticket: Ticket) -> Step
+pub(crate) fn permit_failure_step(
+    breaker: Breaker,
+    list: &mut [u64],
+    now_ms: u64,
+    ticket: Ticket,
+) -> Step
     ensures { λ r. ⌜ crossing (r .answer) (r .breaker) (now (list .exit)) ≡ crossed (onSound (Calls.settle «now_ms» ticket false) breaker (now (list .entry))) ⌝ }
 {
     let s = circuit::permit_failure(breaker, list, now_ms, ticket);
@@ -128,7 +148,12 @@ pub fn permit_failure_step(breaker: Breaker, list: &mut [u64], now_ms: u64, tick
 }
 
 // Ruled out: a dropped permit that counts as a success; one that is given back.
-pub fn permit_dropped_step(breaker: Breaker, list: &mut [u64], now_ms: u64, ticket: Ticket) -> Step
+pub(crate) fn permit_dropped_step(
+    breaker: Breaker,
+    list: &mut [u64],
+    now_ms: u64,
+    ticket: Ticket,
+) -> Step
     ensures { λ r. ⌜ crossing (r .answer) (r .breaker) (now (list .exit)) ≡ crossed (onSound (Calls.settle «now_ms» ticket false) breaker (now (list .entry))) ⌝ }
 {
     let s = circuit::permit_dropped(breaker, list, now_ms, ticket);
@@ -141,7 +166,7 @@ pub fn permit_dropped_step(breaker: Breaker, list: &mut [u64], now_ms: u64, tick
 }
 
 // Ruled out: a notice of 0; the generation told in its place.
-pub fn permit_cancel_step(breaker: Breaker, list: &mut [u64], ticket: Ticket) -> Step
+pub(crate) fn permit_cancel_step(breaker: Breaker, list: &mut [u64], ticket: Ticket) -> Step
     ensures { λ r. ⌜ crossing (r .answer) (r .breaker) (now (list .exit)) ≡ crossed (onSound (Calls.cancel ticket) breaker (now (list .entry))) ⌝ }
 {
     let s = circuit::permit_cancel(breaker, list, ticket);
@@ -154,7 +179,7 @@ pub fn permit_cancel_step(breaker: Breaker, list: &mut [u64], ticket: Ticket) ->
 }
 
 // Ruled out: the record before the reset returned; a run of failures kept.
-pub fn reset_step(breaker: Breaker, list: &mut [u64]) -> Step
+pub(crate) fn reset_step(breaker: Breaker, list: &mut [u64]) -> Step
     ensures { λ r. ⌜ crossing (r .answer) (r .breaker) (now (list .exit)) ≡ crossed (onSound (λ s st. Rules.reset st) breaker (now (list .entry))) ⌝ }
 {
     let s = circuit::reset(breaker, list);
@@ -167,7 +192,12 @@ pub fn reset_step(breaker: Breaker, list: &mut [u64]) -> Step
 }
 
 // Ruled out: success and failure swapped; a failure that meets 5 told 0.
-pub fn record_manual_step(breaker: Breaker, list: &mut [u64], now_ms: u64, success: bool) -> Step
+pub(crate) fn record_manual_step(
+    breaker: Breaker,
+    list: &mut [u64],
+    now_ms: u64,
+    success: bool,
+) -> Step
     ensures { λ r. ⌜ crossing (r .answer) (r .breaker) (now (list .exit)) ≡ crossed (onSound (λ s st. Rules.manual s «now_ms» success st) breaker (now (list .entry))) ⌝ }
 {
     let s = circuit::record_manual(breaker, list, now_ms, success);
@@ -180,7 +210,7 @@ pub fn record_manual_step(breaker: Breaker, list: &mut [u64], now_ms: u64, succe
 }
 
 // Ruled out: one that frees all trait probes; the record before the release returned.
-pub fn release_trait_probe_step(breaker: Breaker, list: &mut [u64]) -> Step
+pub(crate) fn release_trait_probe_step(breaker: Breaker, list: &mut [u64]) -> Step
     ensures { λ r. ⌜ crossing (r .answer) (r .breaker) (now (list .exit)) ≡ crossed (onSound (λ s st. Rules.done (Rules.released st)) breaker (now (list .entry))) ⌝ }
 {
     let s = circuit::release_trait_probe(breaker, list);
@@ -193,7 +223,7 @@ pub fn release_trait_probe_step(breaker: Breaker, list: &mut [u64]) -> Step
 }
 
 // Ruled out: an inner retry told 6; 11 told before 3 and 4.
-pub fn try_admit_step(
+pub(crate) fn try_admit_step(
     breaker: Breaker,
     list: &mut [u64],
     now_ms: u64,
@@ -220,7 +250,7 @@ pub fn try_admit_step(
 }
 
 // Ruled out: kind and delay swapped; a shed told 6.
-pub fn acquire_cost_step(
+pub(crate) fn acquire_cost_step(
     breaker: Breaker,
     list: &mut [u64],
     now_ms: u64,
@@ -246,7 +276,7 @@ pub fn acquire_cost_step(
 }
 
 // Ruled out: a reply of kind 2 taken for none; a wait told without its milliseconds.
-pub fn reserve_step(
+pub(crate) fn reserve_step(
     breaker: Breaker,
     list: &mut [u64],
     now_ms: u64,
@@ -272,7 +302,7 @@ pub fn reserve_step(
 }
 
 // Ruled out: every cost told as 1; one that frees no trial.
-pub fn refund_step(breaker: Breaker, list: &mut [u64], cost: u32) -> Step
+pub(crate) fn refund_step(breaker: Breaker, list: &mut [u64], cost: u32) -> Step
     ensures { λ r. ⌜ crossing (r .answer) (r .breaker) (now (list .exit)) ≡ crossed (onSound (Calls.refund cost) breaker (now (list .entry))) ⌝ }
 {
     let s = admission::refund(breaker, list, cost);
@@ -285,7 +315,7 @@ pub fn refund_step(breaker: Breaker, list: &mut [u64], cost: u32) -> Step
 }
 
 // Ruled out: the answers left as they came; the record before the last call returned.
-pub fn finish_all_step(
+pub(crate) fn finish_all_step(
     breaker: Breaker,
     list: &mut [u64],
     now_ms: u64,
@@ -317,14 +347,20 @@ pub fn finish_all_step(
 }
 
 // Ruled out: a stale ticket told 0 while Open; a delay told in v2.
-pub fn still_admits_step(breaker: Breaker, list: &[u64], now_ms: u64, ticket: Ticket) -> Told
+pub(crate) fn still_admits_step(breaker: Breaker, list: &[u64], now_ms: u64, ticket: Ticket) -> Told
     ensures { λ r. ⌜ r ≡ packed (asked (λ s st. Rules.stillAdmits «now_ms» ticket st) breaker (now (list .entry))) ⌝ }
 {
     tell_standing(breaker::still_admits(breaker, list, now_ms, ticket))
 }
 
 // Ruled out: an unknown kind told 0; a retry told without its delay.
-pub fn peek_step(breaker: Breaker, list: &[u64], now_ms: u64, inner_kind: u8, inner_ms: u64) -> Told
+pub(crate) fn peek_step(
+    breaker: Breaker,
+    list: &[u64],
+    now_ms: u64,
+    inner_kind: u8,
+    inner_ms: u64,
+) -> Told
     ensures { λ r. ⌜ r ≡ packed (askedReply (known «inner_kind») (Calls.peek (decisionBy «inner_kind» «inner_ms») «now_ms») breaker (now (list .entry))) ⌝ }
 {
     if !is_known(inner_kind) {
@@ -335,7 +371,7 @@ pub fn peek_step(breaker: Breaker, list: &[u64], now_ms: u64, inner_kind: u8, in
 }
 
 // Ruled out: a count where the inner peek was refused; an unknown kind told a count of 0.
-pub fn available_step(
+pub(crate) fn available_step(
     breaker: Breaker,
     list: &[u64],
     now_ms: u64,
@@ -353,7 +389,7 @@ pub fn available_step(
 }
 
 // Ruled out: a figure in a hundred; one that counts the good calls.
-pub fn board_step(breaker: Breaker, list: &[u64]) -> Told
+pub(crate) fn board_step(breaker: Breaker, list: &[u64]) -> Told
     ensures { λ r. ⌜ r ≡ packed (asked Calls.board breaker (now (list .entry))) ⌝ }
 {
     tell_counted(circuit::board(breaker, list))

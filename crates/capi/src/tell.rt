@@ -2,7 +2,7 @@
 ghost use mathlib.Core.Path.{_≡_};
 ghost use Rattle.error.specs.Choice.{bit};
 ghost use Rattle.error.specs.Told.{refused};
-ghost use Rattle.breaker.specs.Answers.{admissionTold, finishedTold, triedTold, standingTold, noticeTold, decisionValues, decidedTold, reservedTold, countedTold};
+ghost use Rattle.breaker.specs.Answers.{admissionTold, finishedTold, triedTold, standingTold, noticeTold, decidedTold, reservedTold, countedTold};
 ghost use Rattle.capi.specs.Crossing.{packed};
 use crate::Told;
 use breaker::Admission;
@@ -18,7 +18,7 @@ use breaker::Tried;
 use error::Refusal;
 
 // A probe flag as a value.
-pub fn flag(probe: bool) -> u64
+pub(crate) fn flag(probe: bool) -> u64
     ensures { λ r. ⌜ r ≡ bit probe ⌝ }
 {
     if probe {
@@ -27,7 +27,7 @@ pub fn flag(probe: bool) -> u64
     0
 }
 
-pub fn tell_refusal(refusal: Refusal) -> Told
+pub(crate) fn tell_refusal(refusal: Refusal) -> Told
     ensures { λ r. ⌜ r ≡ packed (refused refusal) ⌝ }
 {
     Told {
@@ -37,7 +37,7 @@ pub fn tell_refusal(refusal: Refusal) -> Told
     }
 }
 
-pub fn tell_finished(answer: Finished) -> Told
+pub(crate) fn tell_finished(answer: Finished) -> Told
     ensures { λ r. ⌜ r ≡ packed (finishedTold answer) ⌝ }
 {
     match answer {
@@ -50,7 +50,7 @@ pub fn tell_finished(answer: Finished) -> Told
     }
 }
 
-pub fn tell_admission(answer: Admission) -> Told
+pub(crate) fn tell_admission(answer: Admission) -> Told
     ensures { λ r. ⌜ r ≡ packed (admissionTold answer) ⌝ }
 {
     match answer {
@@ -68,7 +68,7 @@ pub fn tell_admission(answer: Admission) -> Told
     }
 }
 
-pub fn tell_tried(answer: Tried) -> Told
+pub(crate) fn tell_tried(answer: Tried) -> Told
     ensures { λ r. ⌜ r ≡ packed (triedTold answer) ⌝ }
 {
     match answer {
@@ -96,7 +96,7 @@ pub fn tell_tried(answer: Tried) -> Told
     }
 }
 
-pub fn tell_standing(answer: Standing) -> Told
+pub(crate) fn tell_standing(answer: Standing) -> Told
     ensures { λ r. ⌜ r ≡ packed (standingTold answer) ⌝ }
 {
     match answer {
@@ -114,7 +114,7 @@ pub fn tell_standing(answer: Standing) -> Told
     }
 }
 
-pub fn tell_notice(answer: Notice) -> Told
+pub(crate) fn tell_notice(answer: Notice) -> Told
     ensures { λ r. ⌜ r ≡ packed (noticeTold answer) ⌝ }
 {
     match answer {
@@ -149,7 +149,7 @@ fn tell_decision(d: Decision) -> Told
     }
 }
 
-pub fn tell_decided(answer: Decided) -> Told
+pub(crate) fn tell_decided(answer: Decided) -> Told
     ensures { λ r. ⌜ r ≡ packed (decidedTold answer) ⌝ }
 {
     match answer {
@@ -175,7 +175,7 @@ fn tell_reservation(w: Reservation) -> Told
     }
 }
 
-pub fn tell_reserved(answer: Reserved) -> Told
+pub(crate) fn tell_reserved(answer: Reserved) -> Told
     ensures { λ r. ⌜ r ≡ packed (reservedTold answer) ⌝ }
 {
     match answer {
@@ -184,7 +184,7 @@ pub fn tell_reserved(answer: Reserved) -> Told
     }
 }
 
-pub fn tell_counted(answer: Counted) -> Told
+pub(crate) fn tell_counted(answer: Counted) -> Told
     ensures { λ r. ⌜ r ≡ packed (countedTold answer) ⌝ }
 {
     match answer {

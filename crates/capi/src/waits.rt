@@ -171,7 +171,7 @@ fn tell_dropped(answer: Dropped) -> Waited
 // ---- steps
 
 // Ruled out: a shed told 0; a wait begun and the record before the admission returned.
-pub fn wait_start_step(
+pub(crate) fn wait_start_step(
     breaker: Breaker,
     list: &mut [u64],
     pending: Pending,
@@ -194,7 +194,7 @@ pub fn wait_start_step(
 }
 
 // Ruled out: an epoch told as the time to sleep; an admission told without its ticket.
-pub fn wait_turn_step(
+pub(crate) fn wait_turn_step(
     breaker: Breaker,
     list: &mut [u64],
     pending: Pending,
@@ -216,7 +216,7 @@ pub fn wait_turn_step(
 }
 
 // Ruled out: turns used up told as a deadline; a refused run told to have taken none.
-pub fn wait_run_step(
+pub(crate) fn wait_run_step(
     breaker: Breaker,
     list: &mut [u64],
     pending: Pending,
@@ -241,7 +241,7 @@ pub fn wait_run_step(
 }
 
 // Ruled out: a held grant told as nothing to give back; the wait before the drop returned.
-pub fn wait_drop_step(breaker: Breaker, list: &mut [u64], pending: Pending) -> WaitStep
+pub(crate) fn wait_drop_step(breaker: Breaker, list: &mut [u64], pending: Pending) -> WaitStep
     ensures { λ r. ⌜ crossingWait (r .answer) (r .breaker) (now (list .exit)) (r .pending) ≡ crossedWait (leaving breaker (now (list .entry)) pending) ⌝ }
 {
     let s = waiting::drop_pending(breaker, list, pending);

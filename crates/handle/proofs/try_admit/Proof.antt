@@ -17,4 +17,4 @@ unfolding code.routine
 try-admit-spec 𝓤 H 𝓜 𝓖 𝓡 =
     mut-spec triedAnswer (mutRef breaker ∷ mutSlice u64 ∷ val u64 ∷ val decision ∷ val u32 ∷ []) tried 𝓤 H 𝓜 𝓖 𝓡 (f.clauses 𝓤 H (𝓖 .A) (𝓜 .mem) (𝓡 .run)) (g.clauses 𝓤 H (𝓖 .A) (𝓜 .mem) (𝓡 .run))
     record { gh = λ κs a x. x; req = λ κs a x. id⊢ 𝓤 _; ens = λ κs a x z ws. id⊢ 𝓤 _ }
-    code.env key.name g-def.name (code.unfolded 𝓤 H 𝓜 𝓡) g-def.routine code.calls-circuit·try-admit (g-thm.met 𝓤 H 𝓜 𝓖 𝓡)
+    code.env key.name g-def.name (code.unfolded 𝓤 H 𝓜 𝓡) g-def.routine code.calls-admission·try-admit (g-thm.met 𝓤 H 𝓜 𝓖 𝓡)

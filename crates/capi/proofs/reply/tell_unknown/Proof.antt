@@ -1,35 +1,42 @@
 -- `capi::reply::tell_unknown` meets its contract: 3, 4, then 11. Assumes nothing.
-use mathlib.Core.Path.{sym, _∙_}
-use borrow.Author.Tests.{eq-eqb, ne-eqb, not-true, not-false}
+use mathlib.Core.Path.{sym, ap, _∙_}
 use borrow.Author.Needs.{needs}
+use Rattle.error.specs.Told.{refused}
+use Rattle.error.specs.declared.Refusal.the-variants.{Turn}
+use Rattle.breaker.proofs.Guard.{guarded-refused, guarded-done, tested-sound}
+use Rattle.capi.specs.Crossing.{packed}
 use Rattle.capi.proofs.reply.tell_unknown.Statement.{statement}
 use Rattle.capi.proofs.reply.tell_unknown.Tie as tie
+
+test-requires : tie.Need-test-requires
+test-requires c κs = search needs
+
+enum-known-r : tie.Need-enum-known-r
+enum-known-r c = search needs
 
 tell-refusal-requires : tie.Need-tell-refusal-requires
 tell-refusal-requires c κs = search needs
 
-returns : tie.Need-returns
-returns c = c .tell-refusal .ensures ∙ simp (ne-eqb _ _ (c .before .if1 .taken))
-
-is-sound-requires : tie.Need-is-sound-requires
-is-sound-requires c κs = search needs
+enum-told : tie.Need-enum-told
+enum-told c = search needs
 
 tell-refusal-requires-2 : tie.Need-tell-refusal-requires-2
 tell-refusal-requires-2 c κs = search needs
 
-returns-2 : tie.Need-returns-2
-returns-2 c = c .tell-refusal2 .ensures ∙ simp (eq-eqb _ _ (c .before .before .before .if1 .left), sym (c .before .before .is-sound .ensures) ∙ not-true (c .before .before .is-sound .result) (c .before .if2 .taken))
+returns : tie.Need-returns
+returns c = c .tell-refusal .ensures ∙ ap packed (guarded-refused refused (refused Turn) (c .before .before .before .before .before .before .args .breaker) (c .before .before .before .before .before .before .args .list .now) (c .before .before .r .given .0 .0) (sym (c .before .before .r .given .1) ∙ c .before .before .before .before .test .ensures))
 
-returns-3 : tie.Need-returns-3
-returns-3 c = simp (eq-eqb _ _ (c .before .before .if1 .left), sym (c .before .is-sound .ensures) ∙ not-false (c .before .is-sound .result) (c .if2 .left))
+returns-2 : tie.Need-returns-2
+returns-2 c = c .tell-refusal2 .ensures ∙ ap packed (guarded-done refused (refused Turn) (c .before .before .before .before .before .args .breaker) (c .before .before .before .before .before .args .list .now) (tested-sound (c .before .before .before .before .before .args .breaker) (c .before .before .before .before .before .args .list .now) (sym (c .before .enum-told .given .1) ∙ c .before .before .before .test .ensures)))
 
 pub tell-unknown-spec : {M : Type 1} → statement M
 tell-unknown-spec =
     tie.close
     (tie.spec
+    test-requires
+    enum-known-r
     tell-refusal-requires
-    returns
-    is-sound-requires
+    enum-told
     tell-refusal-requires-2
-    returns-2
-    returns-3)
+    returns
+    returns-2)
