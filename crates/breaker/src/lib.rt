@@ -116,33 +116,33 @@ pub enum Tested {
 
 // The answer of a call that tells no more than a refusal, and the record after it.
 pub struct Settled {
-    pub answer: Finished,
     pub breaker: Breaker,
+    pub answer: Finished,
 }
 
 pub struct Admitted {
-    pub answer: Admission,
     pub breaker: Breaker,
+    pub answer: Admission,
 }
 
 pub struct TriedAdmission {
-    pub answer: Tried,
     pub breaker: Breaker,
+    pub answer: Tried,
 }
 
 pub struct Noticed {
-    pub answer: Notice,
     pub breaker: Breaker,
+    pub answer: Notice,
 }
 
 pub struct Acquisition {
-    pub answer: Decided,
     pub breaker: Breaker,
+    pub answer: Decided,
 }
 
 pub struct Reserving {
-    pub answer: Reserved,
     pub breaker: Breaker,
+    pub answer: Reserved,
 }
 
 // Whether a record and its list are sound.
