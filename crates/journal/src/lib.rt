@@ -33,7 +33,7 @@ struct Stepped {
     breaker: Breaker,
 }
 
-// The bytes within the limit.
+// How many of n bytes are within the limit.
 fn within_limit(n: usize) -> usize
     ensures { λ r. ⌜ r ≡ min n 65536 ⌝ }
 {

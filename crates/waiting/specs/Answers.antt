@@ -1,8 +1,7 @@
 -- "What a caller is told": for each answer enum of a wait before a breaker, document 01's number and values of each case.
-use Prim.Native.Nat.{ℕ}
-use mathlib.Core.List.{List, [], _∷_, _++_}
-use Rattle.error.specs.Told.{Told, tell, refused}
-use Rattle.breaker.specs.Answers.{ticketValues, delayValues}
+use mathlib.Core.List.{[], _∷_, _++_}
+use Rattle.error.specs.Told.{Told, tell, nothing, refused}
+use Rattle.breaker.specs.Answers.{ticketValues, delayValues, shedTold}
 use Rattle.wait.specs.Answers.{actValues}
 use Rattle.waiting.specs.declared.Begun.{Begun}
 use Rattle.waiting.specs.declared.Begun.the-variants as Begun·is
@@ -13,14 +12,13 @@ use Rattle.waiting.specs.declared.Awaited.the-variants as Awaited·is
 use Rattle.waiting.specs.declared.Course.{Course}
 use Rattle.waiting.specs.declared.Course.the-variants as Course·is
 
--- "breaker sheds (`CircuitOpen`) | 6 | delay ms"
 abbrev pub begunTold : Begun → Told
-begunTold Begun·is.Waits = tell 0 []
-begunTold (Begun·is.Shed d) = tell 6 (delayValues d)
+begunTold Begun·is.Waits = nothing
+begunTold (Begun·is.Shed d) = shedTold d
 begunTold (Begun·is.Refused r) = refused r
 
 -- done is 0, then the ticket (1 to 4 are what the host is to do); a shed has what to refund after its delay;
--- "inner impossible | 8 | cost 1, capacity", "deadline | 9 | give-back 0 or 1"
+-- "inner impossible … | 8 | cost 1, capacity", "deadline | 9 | give-back 0 or 1"
 abbrev pub completedTold : Completed → Told
 completedTold (Completed·is.Admitted t) = tell 0 (0 ∷ ticketValues t)
 completedTold (Completed·is.Shed d refund) = tell 6 (delayValues d ++ (refund ∷ []))
