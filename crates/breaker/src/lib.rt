@@ -116,33 +116,33 @@ pub enum Tested {
 
 // The answer of a call that tells no more than a refusal, and the record after it.
 pub struct Settled {
-    pub breaker: Breaker,
     pub answer: Finished,
+    pub breaker: Breaker,
 }
 
 pub struct Admitted {
-    pub breaker: Breaker,
     pub answer: Admission,
+    pub breaker: Breaker,
 }
 
 pub struct TriedAdmission {
-    pub breaker: Breaker,
     pub answer: Tried,
+    pub breaker: Breaker,
 }
 
 pub struct Noticed {
-    pub breaker: Breaker,
     pub answer: Notice,
+    pub breaker: Breaker,
 }
 
 pub struct Acquisition {
-    pub breaker: Breaker,
     pub answer: Decided,
+    pub breaker: Breaker,
 }
 
 pub struct Reserving {
-    pub breaker: Breaker,
     pub answer: Reserved,
+    pub breaker: Breaker,
 }
 
 // Whether a record and its list are sound.
