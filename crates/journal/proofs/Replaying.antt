@@ -22,8 +22,8 @@ use Rattle.lines.specs.declared.Call.{Call}
 use Rattle.lines.specs.declared.Header.{Header}
 use Rattle.lines.specs.Print.{printDecimal, decimalIn, printLine, printCall, readingOf, CallFits, printHeader, HeaderFits}
 use Rattle.lines.specs.Reads.{NoCall, NoHeader}
-use Rattle.lines.proofs.Calls.{same-call}
-use Rattle.lines.proofs.Headers.{same-header}
+use Rattle.lines.proofs.CallLines.{same-call}
+use Rattle.lines.proofs.HeaderLines.{same-header}
 use Rattle.journal.specs.Replay.{called, answerLine, malformedLine, builderOf, Replays, finished, call, malformed, Answers, headless, refused, headed, Journal}
 use Rattle.journal.specs.Laid.{laid}
 use Rattle.journal.specs.Steps.{Ends, Kept}

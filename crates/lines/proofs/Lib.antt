@@ -1,5 +1,5 @@
 -- Laws, by what they speak of.
 pub mod Numbers
 pub mod Fields
-pub mod Calls
-pub mod Headers
+pub mod CallLines
+pub mod HeaderLines

@@ -1,13 +1,13 @@
 // The archive journal's lines: a header or a call, read from the bytes.
 ghost use Rattle.lines.specs.Reads.{CallRead, HeaderRead};
 
+mod calls;
 mod digits;
-mod heads;
-mod orders;
+mod headers;
 mod values;
 
-use heads::take_header;
-use orders::take_call;
+use calls::take_call;
+use headers::take_header;
 
 // A call of the journal: its reading, then generation and probe flag of its ticket.
 pub enum Call {

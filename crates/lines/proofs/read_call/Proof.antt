@@ -1,6 +1,6 @@
 -- `lines::read_call` meets its contract. Assumes nothing.
 use borrow.Author.Needs.{needs}
-use Rattle.lines.proofs.Calls.{call-read}
+use Rattle.lines.proofs.CallLines.{call-read}
 use Rattle.lines.proofs.read_call.Statement.{statement}
 use Rattle.lines.proofs.read_call.Tie as tie
 

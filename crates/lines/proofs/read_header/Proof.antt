@@ -1,6 +1,6 @@
 -- `lines::read_header` meets its contract. Assumes nothing.
 use borrow.Author.Needs.{needs}
-use Rattle.lines.proofs.Headers.{header-read}
+use Rattle.lines.proofs.HeaderLines.{header-read}
 use Rattle.lines.proofs.read_header.Statement.{statement}
 use Rattle.lines.proofs.read_header.Tie as tie
 

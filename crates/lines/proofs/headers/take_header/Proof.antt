@@ -1,4 +1,4 @@
--- `lines::heads::take_header` meets its contract. Assumes nothing.
+-- `lines::headers::take_header` meets its contract. Assumes nothing.
 use Prim.Native.Nat.{_+_}
 use mathlib.Core.Path.{_≡_, sym, ap, _∙_}
 use native.Mathlib.Omega.{arith}
@@ -7,9 +7,9 @@ use lib.ListN.{length, take, drop, getD, drop-of-length-le}
 use Rattle.lines.specs.Take.{limitsOf, takeRest, takeHeader, seenAll, got, none}
 use Rattle.lines.proofs.Numbers.{front}
 use Rattle.lines.proofs.Fields.{rest-back}
-use Rattle.lines.proofs.Headers.{made-header}
-use Rattle.lines.proofs.heads.take_header.Statement.{statement}
-use Rattle.lines.proofs.heads.take_header.Tie as tie
+use Rattle.lines.proofs.HeaderLines.{made-header}
+use Rattle.lines.proofs.headers.take_header.Statement.{statement}
+use Rattle.lines.proofs.headers.take_header.Tie as tie
 
 returns : tie.Need-returns
 unfolding takeHeader

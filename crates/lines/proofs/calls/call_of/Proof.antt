@@ -1,9 +1,9 @@
--- `lines::orders::call_of` meets its contract. Assumes nothing.
+-- `lines::calls::call_of` meets its contract. Assumes nothing.
 use mathlib.Core.Path.{refl}
 use native.Mathlib.Omega.{arith}
 use borrow.Author.Tests.{ne-eqb}
-use Rattle.lines.proofs.orders.call_of.Statement.{statement}
-use Rattle.lines.proofs.orders.call_of.Tie as tie
+use Rattle.lines.proofs.calls.call_of.Statement.{statement}
+use Rattle.lines.proofs.calls.call_of.Tie as tie
 
 returns : tie.Need-returns
 returns c = (rw (c .match .keys1) (λ s. refl), omega arith)

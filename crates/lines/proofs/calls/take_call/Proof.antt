@@ -1,4 +1,4 @@
--- `lines::orders::take_call` meets its contract. Assumes nothing.
+-- `lines::calls::take_call` meets its contract. Assumes nothing.
 use Prim.Native.Nat.{_+_}
 use mathlib.Core.Path.{_≡_, sym, ap, _∙_}
 use native.Mathlib.Omega.{arith}
@@ -7,9 +7,9 @@ use borrow.Author.Tests.{eq-eqb, ne-eqb}
 use lib.ListN.{length, take, drop, getD, drop-of-length-le}
 use Rattle.lines.specs.Take.{max64, takeNumber, limitsOf, takeRest, takeKind, takeLetter, takeCall, seen, seenAll, got, none}
 use Rattle.lines.proofs.Numbers.{front}
-use Rattle.lines.proofs.Calls.{made-call}
-use Rattle.lines.proofs.orders.take_call.Statement.{statement}
-use Rattle.lines.proofs.orders.take_call.Tie as tie
+use Rattle.lines.proofs.CallLines.{made-call}
+use Rattle.lines.proofs.calls.take_call.Statement.{statement}
+use Rattle.lines.proofs.calls.take_call.Tie as tie
 
 read-decimal-requires : tie.Need-read-decimal-requires
 read-decimal-requires c κs = search needs

@@ -1,12 +1,12 @@
--- `lines::heads::header_of` meets its contract. Assumes nothing.
+-- `lines::headers::header_of` meets its contract. Assumes nothing.
 use mathlib.Core.Path.{refl}
 use native.Mathlib.Omega.{arith}
 use borrow.Author.Needs.{needs}
 use borrow.Author.Tests.{ne-eqb}
 use Rattle.lines.specs.Take.{limitsOf}
-use Rattle.lines.proofs.Headers.{limited}
-use Rattle.lines.proofs.heads.header_of.Statement.{statement}
-use Rattle.lines.proofs.heads.header_of.Tie as tie
+use Rattle.lines.proofs.HeaderLines.{limited}
+use Rattle.lines.proofs.headers.header_of.Statement.{statement}
+use Rattle.lines.proofs.headers.header_of.Tie as tie
 
 element-copy-out-t7 : tie.Need-element-copy-out-t7
 element-copy-out-t7 c = search needs
