@@ -13,15 +13,15 @@ use Rattle.breaker.specs.declared.Delay.{Delay}
 use Rattle.steps.specs.declared.Entry.the-variants.{Granted, Shed}
 use Rattle.breaker.specs.declared.Decision.{Decision}
 use Rattle.breaker.specs.declared.Decision.the-variants.{Acquired, Retry, Impossible}
-use Rattle.breaker.specs.declared.Reservation.{Reservation}
-use Rattle.breaker.specs.declared.Reservation.the-variants.{Wait, Nothing}
 use Rattle.error.specs.Choice.{if_then_else_}
 use Rattle.breaker.specs.Record.{Settings, State, settings, state, stored, sound}
-use Rattle.breaker.specs.Answers.{delayValues, delayOf, ticketValues, decisionValues, reservationValues}
+use Rattle.breaker.specs.Answers.{delayValues, delayOf, ticketValues, decisionValues}
 use Rattle.breaker.specs.Rules.{Outcome, Admitted, granted, shed, admit, admitAs, viaTrait, noted, sheds, finish, aborting, outcome}
-use Rattle.breaker.specs.Calls.{After, after, kept, answered, admission, tryInner, tryAdmit, handedOn, isAcquired, retry, acquireInner, acquireCost, isReserved, reserveInner, reserve, peeked, peek, available}
-use Rattle.steps.specs.Steps.{entry, Holds}
+use Rattle.breaker.specs.Calls.{after, kept, answered, admission, tryInner, tryAdmit, isAcquired, peeked, peek, available}
+use Rattle.steps.specs.Steps.{entry}
 use Rattle.breaker.proofs.Cases.{admit-cases}
+use Rattle.breaker.proofs.Guard.{unchanged}
+use Rattle.steps.proofs.Aborting.{given-back}
 use Rattle.steps.proofs.Holding.{holds}
 
 -- the ticket and the delay that an entry stands for, and the list of a granted state, which is as it was
@@ -65,22 +65,12 @@ module _ (reading : ℕ) (b : Breaker) (s : List ℕ) (ok : sound b s ≡ true) 
   abbrev st : State
   st = state b s
 
-  -- shed: the record and the places as they were
-  stays : (told : Told) → after told b s ≡ kept c (outcome told st)
-  stays told = ap₂ (after told) (holds b s ok .0) (holds b s ok .1)
-
   places : (a : Admitted) → Keeping (st .list) a → (t : Ticket) (next : State) → a ≡ granted t next → s ≡ padded (next .list)
   places a k t next e = holds b s ok .1 ∙ ap padded (sym (granted-list (st .list) a t next k e))
 
   -- granted: the record after the admission
   goes : (told : Told) (next : State) (r : Breaker) → r ≡ stored c next → s ≡ padded (next .list) → after told r s ≡ kept c (outcome told next)
   goes told next r e l = ap₂ (after told) e l
-
-  -- granted and given back: the record after the abort
-  back : (told : Told) (t : Ticket) (via : Bool) (next : State) (r : Breaker)
-      → kept c (finish (settings c) reading (aborting t via) next) ≡ after nothing r (padded (next .list)) → s ≡ padded (next .list)
-      → after told r s ≡ kept c (outcome told (finish (settings c) reading (aborting t via) next .after))
-  back told t via next r e l = ap₂ (after told) (sym (ap (λ (a : After). a .breaker) e)) (l ∙ sym (ap (λ (a : After). a .places) e))
 
   -- ---- plain admission
   module _ (trait : Bool) where
@@ -90,7 +80,7 @@ module _ (reading : ℕ) (b : Breaker) (s : List ℕ) (ok : sound b s ≡ true) 
     pub admitted-shed : (d : Delay) → Shed d ≡ entry c asked → after (tell 6 (delayValues d)) b s ≡ kept c (admission trait reading (settings c) st)
     admitted-shed d e =
         entered-shed c d asked e
-        (λ ms q r. ap (λ (x : Delay). after (tell 6 (delayValues x)) b s) r ∙ stays (sheds ms) ∙ ap (λ (x : Admitted). kept c (answered x st)) (sym q))
+        (λ ms q r. ap (λ (x : Delay). after (tell 6 (delayValues x)) b s) r ∙ unchanged (sheds ms) b s ok ∙ ap (λ (x : Admitted). kept c (answered x st)) (sym q))
 
     pub admitted-granted : (t : Ticket) (next : Breaker) → Granted t next ≡ entry c asked
         → after (tell 0 (ticketValues t)) next s ≡ kept c (admission trait reading (settings c) st)
@@ -111,7 +101,7 @@ module _ (reading : ℕ) (b : Breaker) (s : List ℕ) (ok : sound b s ≡ true) 
     pub tried-shed : (d : Delay) → Shed d ≡ entry c plain → after (tell 6 (delayValues d)) b s ≡ kept c (tryAdmit inner capacity reading (settings c) st)
     tried-shed d e =
         entered-shed c d plain e
-        (λ ms q r. ap (λ (x : Delay). after (tell 6 (delayValues x)) b s) r ∙ stays (sheds ms) ∙ ap (kept c) (try-shed inner ms) ∙ ap (λ (x : Admitted). kept c (tryInner inner capacity reading (settings c) x st)) (sym q))
+        (λ ms q r. ap (λ (x : Delay). after (tell 6 (delayValues x)) b s) r ∙ unchanged (sheds ms) b s ok ∙ ap (kept c) (try-shed inner ms) ∙ ap (λ (x : Admitted). kept c (tryInner inner capacity reading (settings c) x st)) (sym q))
 
     module _ (t : Ticket) (next : Breaker) (e : Granted t next ≡ entry c plain) where
       pub tried-granted : inner ≡ Acquired → after (tell 0 (ticketValues t)) next s ≡ kept c (tryAdmit inner capacity reading (settings c) st)
@@ -126,7 +116,7 @@ module _ (reading : ℕ) (b : Breaker) (s : List ℕ) (ok : sound b s ≡ true) 
           → after told final s ≡ kept c (tryAdmit inner capacity reading (settings c) st)
       tried-back told final f i =
           entered-granted c t next plain e
-          (λ st′ q r. back told t false st′ final (f st′ r) (places plain (admit-keeps (settings c) reading st) t st′ q) ∙ ap (kept c) (sym (i st′))
+          (λ st′ q r. given-back told c reading t false st′ final s (f st′ r) (places plain (admit-keeps (settings c) reading st) t st′ q) ∙ ap (kept c) (sym (i st′))
           ∙ ap (λ (x : Admitted). kept c (tryInner inner capacity reading (settings c) x st)) (sym q))
 
   -- ---- the trait side
@@ -139,7 +129,7 @@ module _ (reading : ℕ) (b : Breaker) (s : List ℕ) (ok : sound b s ≡ true) 
         → after told b s ≡ kept c (rule trait)
     handed-shed shown i d e f =
         entered-shed c d trait e
-        (λ ms q r. ap (λ (x : Told). after x b s) (f ms r) ∙ stays (shown ms) ∙ ap (kept c) (sym (i ms)) ∙ ap (λ (x : Admitted). kept c (rule x)) (sym q))
+        (λ ms q r. ap (λ (x : Told). after x b s) (f ms r) ∙ unchanged (shown ms) b s ok ∙ ap (kept c) (sym (i ms)) ∙ ap (λ (x : Admitted). kept c (rule x)) (sym q))
 
     module _ (t : Ticket) (next : Breaker) (e : Granted t next ≡ entry c trait) where
       pub handed-on : ((st′ : State) → rule (granted t st′) ≡ outcome told st′) → after told next s ≡ kept c (rule trait)
@@ -152,7 +142,7 @@ module _ (reading : ℕ) (b : Breaker) (s : List ℕ) (ok : sound b s ≡ true) 
           → ((st′ : State) → rule (granted t st′) ≡ outcome told (finish (settings c) reading (aborting t true) st′ .after)) → after told final s ≡ kept c (rule trait)
       handed-back final f i =
           entered-granted c t next trait e
-          (λ st′ q r. back told t true st′ final (f st′ r) (places trait (admitAs-keeps true (settings c) reading st) t st′ q) ∙ ap (kept c) (sym (i st′))
+          (λ st′ q r. given-back told c reading t true st′ final s (f st′ r) (places trait (admitAs-keeps true (settings c) reading st) t st′ q) ∙ ap (kept c) (sym (i st′))
           ∙ ap (λ (x : Admitted). kept c (rule x)) (sym q))
 
   -- ---- peek and available

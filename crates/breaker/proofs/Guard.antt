@@ -1,13 +1,13 @@
 -- The entry points: refusals 3 and 4, and what is left after the test. Assumes nothing.
-use mathlib.Core.Path.{_≡_, refl, sym, ap, _∙_}
+use mathlib.Core.Path.{_≡_, refl, sym, ap, ap₂, _∙_}
 use mathlib.Core.Bool.{Bool, true, false, not, false≢true}
-use mathlib.Core.List.{List, []}
+use mathlib.Core.List.{List}
 use Prim.Native.Nat.{ℕ}
 use lib.Dec.{eqb}
 use lib.ListN.{length}
 use borrow.Author.Tests.{eq-eqb, ne-eqb}
 use Rattle.error.specs.Choice.{if_then_else_}
-use Rattle.error.specs.Told.{Told, tell, refused}
+use Rattle.error.specs.Told.{Told, refused}
 use Rattle.error.specs.declared.Refusal.{Refusal}
 use Rattle.error.specs.declared.Refusal.the-variants.{Storage, Unsound}
 use Rattle.history.specs.Items.{padded}
@@ -16,8 +16,8 @@ use Rattle.breaker.specs.declared.Tested.{Tested}
 use Rattle.breaker.specs.declared.Tested.the-variants.{Sound, Refused}
 use Rattle.breaker.specs.Record.{Settings, State, settings, state, stored, sound}
 use Rattle.breaker.specs.Rules.{Outcome, outcome}
-use Rattle.breaker.specs.Calls.{After, after, guarded, kept, onSound, asked}
-use Rattle.breaker.proofs.Record.{padded-state, state-stored, sound-places}
+use Rattle.breaker.specs.Calls.{after, guarded, kept, onSound, asked}
+use Rattle.breaker.proofs.Record.{stored-state, padded-state, state-stored, sound-places}
 use Rattle.breaker.proofs.Keeps.{Keeps, sound-state}
 
 -- ---- the tests, for whatever a call answers
@@ -53,6 +53,10 @@ tested-sound b s e = go (eqb (length s) 4096) (sound b s) (ap (meant (λ r. fals
     go false y e = absurd (false≢true (sym e))
     go true false e = sym e
     go true true e = refl
+
+-- an outcome that leaves the state as it was
+pub unchanged : (told : Told) (b : Breaker) (s : List ℕ) → sound b s ≡ true → after told b s ≡ kept (b .config) (outcome told (state b s))
+unchanged told b s ok = ap₂ (after told) (stored-state b s ok) (padded-state b s ok)
 
 -- ---- a call that may change the breaker, and one that only reads it
 

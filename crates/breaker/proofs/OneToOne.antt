@@ -1,7 +1,7 @@
 -- An answer is known by what it tells. Assumes nothing.
 use Prim.Native.Nat.{ℕ}
 use mathlib.Core.Path.{_≡_, refl, ap}
-use mathlib.Core.Bool.{Bool, true, false}
+use mathlib.Core.Bool.{Bool}
 use mathlib.Core.List.{List, [], _∷_}
 use lib.Dec.{eqb}
 use Rattle.error.specs.Choice.{if_then_else_, bit}
@@ -10,7 +10,6 @@ use Rattle.error.specs.declared.Refusal.{Refusal}
 use Rattle.error.proofs.Choice.{bit-back}
 use Rattle.error.proofs.OneToOne.{one, read, read-refused, at}
 use Rattle.breaker.specs.declared.Ticket.{Ticket}
-use Rattle.breaker.specs.declared.Delay.{Delay}
 use Rattle.breaker.specs.declared.Admission.{Admission}
 use Rattle.breaker.specs.declared.Admission.the-variants as Admission·is
 use Rattle.breaker.specs.declared.Finished.{Finished}

@@ -28,7 +28,7 @@ use Rattle.breaker.proofs.Keeps.{sound-run, sound-state}
 use Rattle.breaker.proofs.Guard.{sound-done}
 
 -- ---- the counters and the generation of a state
-counting-none : (st : State) → counting 0 0 0 st ≡ st
+pub counting-none : (st : State) → counting 0 0 0 st ≡ st
 counting-none st = simp (sub-zero, add-zero)
 
 -- the trials that a call gives back, and the trait probes

@@ -1,12 +1,10 @@
 -- Each answer of still_admits and of making a breaker, from the tests that led to it. Assumes nothing.
-use mathlib.Core.Path.{_≡_, refl, sym, ap, ap₂, _∙_}
-use mathlib.Core.Bool.{Bool, true, false}
-use mathlib.Core.List.{List, [], _∷_}
+use mathlib.Core.Path.{_≡_, sym, ap, _∙_}
+use mathlib.Core.List.{List, []}
 use Prim.Native.Nat.{ℕ, _-_}
 use lib.ListN.{length}
 use borrow.Author.Tests.{eq-eqb, ne-eqb}
-use Rattle.error.specs.Choice.{if_then_else_}
-use Rattle.error.specs.Told.{Told, tell, refused}
+use Rattle.error.specs.Told.{tell, refused}
 use Rattle.error.specs.declared.Refusal.{Refusal}
 use Rattle.error.specs.declared.Refusal.the-variants.{Storage}
 use Rattle.history.specs.Items.{padded}
@@ -18,9 +16,9 @@ use Rattle.trip.specs.Settings.{builtOf, builtTold}
 use Rattle.trip.proofs.OneToOne.{built-one}
 use Rattle.breaker.specs.declared.Ticket.{Ticket}
 use Rattle.breaker.specs.declared.Breaker.{Breaker}
-use Rattle.breaker.specs.Record.{State, Closed, Open, settings, stored, state}
-use Rattle.breaker.specs.Rules.{stillAdmits, sheds, done}
-use Rattle.breaker.specs.Calls.{after, kept, fresh, put, built}
+use Rattle.breaker.specs.Record.{State, Closed, Open, stored, state}
+use Rattle.breaker.specs.Rules.{stillAdmits, sheds}
+use Rattle.breaker.specs.Calls.{after, fresh, put, built}
 
 -- ---- still_admits
 module _ (reading : ℕ) (t : Ticket) (st : State) where

@@ -2,16 +2,16 @@
 --     sound→         the test passes: the facts of a sound breaker
 --     →sound         and back, for a state
 --     stored-state   a sound record is its state, stored; state-stored: a stored state is the state of what was stored
-use mathlib.Core.Path.{_≡_, refl, sym, ap, ap₂, _∙_}
+use mathlib.Core.Path.{_≡_, refl, sym, ap}
 use mathlib.Core.Bool.{Bool, true, false, _&&_, _||_}
 use mathlib.Core.Logic.{_⊎_, inl, inr}
-use mathlib.Core.List.{List, []}
+use mathlib.Core.List.{List}
 use Prim.Native.Nat.{ℕ, _≤_, _<_}
 use native.Mathlib.Omega.{arith}
 use lib.Dec.{leb, ltb, eqb}
-use lib.ListN.{length, take}
+use lib.ListN.{length}
 use lib.Seq.{length-take-le}
-use borrow.Author.Tests.{leb-true, ltb-true, eqb-true, eqb-false, le-leb, lt-ltb, eq-eqb}
+use borrow.Author.Tests.{leb-true, ltb-true, eqb-true, le-leb, lt-ltb, eq-eqb}
 use Rattle.history.specs.Items.{view, padded, soundList}
 use Rattle.error.proofs.Choice.{and-split}
 use Rattle.history.proofs.Sound as List·
@@ -20,7 +20,7 @@ use Rattle.trip.specs.declared.Config.{Config}
 use Rattle.trip.specs.Settings.{zeroRatio, oneRatio}
 use Rattle.breaker.specs.declared.Shared.{Shared}
 use Rattle.breaker.specs.declared.Breaker.{Breaker}
-use Rattle.breaker.specs.Record.{State, HalfOpen, state, fields, stored, soundPolicy, soundConfig, soundShared, itemsOf, sound}
+use Rattle.breaker.specs.Record.{State, HalfOpen, state, stored, soundPolicy, soundConfig, soundShared, itemsOf, sound}
 
 -- ---- the settings
 pub record SoundConfig (c : Config) : Type 0 where

@@ -1,6 +1,6 @@
 -- Rows 3 to 8 of document 01's table, each met by an example, with what is left. Assumes nothing.
-use Prim.Native.Nat.{ℕ, _≤_}
-use mathlib.Core.Path.{_≡_, refl, sym, ap, _∙_}
+use Prim.Native.Nat.{ℕ}
+use mathlib.Core.Path.{_≡_, refl, sym}
 use mathlib.Core.Bool.{Bool, true, false, _&&_}
 use mathlib.Core.List.{List, [], _∷_}
 use native.Mathlib.Omega.{arith}
@@ -8,9 +8,8 @@ use lib.ListN.{length, replicate, length-replicate}
 use borrow.Author.Tests.{le-leb, le-ltb}
 use Rattle.error.specs.Told.{tell, refused}
 use Rattle.error.specs.declared.Refusal.the-variants.{Storage, Unsound, Full}
-use Rattle.history.specs.Items.{padded, evicted}
+use Rattle.history.specs.Items.{evicted}
 use Rattle.trip.specs.Policy.{Windowed}
-use Rattle.breaker.specs.declared.Ticket.{Ticket}
 use Rattle.breaker.specs.declared.Delay.{Delay}
 use Rattle.breaker.specs.declared.Breaker.{Breaker}
 use Rattle.breaker.specs.declared.Decision.the-variants.{Retry, Impossible}

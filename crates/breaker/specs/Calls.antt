@@ -108,8 +108,8 @@ isAcquired Acquired = true
 isAcquired (Retry d) = false
 isAcquired Impossible = false
 
-abbrev pub retry : ℕ → Told
-retry ms = tell 0 (decisionValues (Retry (delayOf ms)))
+abbrev pub retry : ℕ → Decision
+retry ms = Retry (delayOf ms)
 
 abbrev pub handedOn : Bool → Told → ℕ → Settings → Ticket → State → Outcome
 handedOn true told reading s t next = outcome told next
@@ -117,7 +117,7 @@ handedOn false told reading s t next = outcome told (finish s reading (traitAbor
 
 abbrev pub acquireInner : Decision → ℕ → Settings → Admitted → State → Outcome
 acquireInner inner reading s (granted t next) st = handedOn (isAcquired inner) (tell 0 (decisionValues inner)) reading s t next
-acquireInner inner reading s (shed ms) st = outcome (retry ms) st
+acquireInner inner reading s (shed ms) st = outcome (tell 0 (decisionValues (retry ms))) st
 
 abbrev pub acquireCost : Decision → ℕ → Settings → State → Outcome
 acquireCost inner reading s st = acquireInner inner reading s (admitAs true s reading st) st
@@ -136,7 +136,7 @@ reserve inner reading s st = reserveInner inner reading s (admitAs true s readin
 -- "Peek refuses as an admission would, changes nothing, else hands on the inner limiter's answer."
 abbrev pub peeked : Decision → Admitted → Decision
 peeked inner (granted t next) = inner
-peeked inner (shed ms) = Retry (delayOf ms)
+peeked inner (shed ms) = retry ms
 
 abbrev pub peek : Decision → ℕ → Settings → State → Told
 peek inner reading s st = tell 0 (decisionValues (peeked inner (admit s reading st)))

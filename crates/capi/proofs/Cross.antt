@@ -17,7 +17,7 @@ use Rattle.waiting.specs.Calls as Waits
 use Rattle.capi.specs.declared.Told.{Told}
 use Rattle.capi.specs.declared.Setting.{Setting}
 use Rattle.capi.specs.declared.Waited.{Waited}
-use Rattle.capi.specs.Crossing.{packed, Crossing, crossing, crossed, crossings, crossedAll, known, onReply, askedReply, builderBy, builtBy}
+use Rattle.capi.specs.Crossing.{packed, crossing, crossed, crossings, crossedAll, known, onReply, askedReply, builderBy, builtBy}
 use Rattle.capi.specs.Waits.{packedWait, crossingWait, crossedWait, crossedRun}
 
 module _ (r : Told) (t : Answer) (b : Breaker) (s : List ℕ) (told : r ≡ packed t) where

@@ -3,29 +3,25 @@
 use mathlib.Core.Path.{_≡_, refl, sym, ap, ap₂, _∙_}
 use mathlib.Core.Bool.{Bool, true, false, _&&_}
 use mathlib.Core.List.{List, [], _∷_, _++_}
-use Prim.Native.Nat.{ℕ, _+_, _-_, _%_, _^_, _≤_, _<_}
-use native.Mathlib.Nat.{add-zero, sub-zero}
-use native.Mathlib.Omega.{arith}
-use lib.Dec.{leb, eqb}
+use Prim.Native.Nat.{ℕ, _+_, _-_, _%_, _^_, _≤_}
+use lib.Dec.{leb}
 use lib.ListN.{length}
 use lib.Ieee.{binary64, ofBits}
-use borrow.Author.Tests.{eq-eqb, ne-eqb, le-leb, lt-leb, lt-ltb, le-ltb}
+use borrow.Author.Tests.{eq-eqb, ne-eqb}
 use Rattle.error.specs.Choice.{if_then_else_, bit}
-use Rattle.error.specs.Told.{Told, tell, nothing}
+use Rattle.error.specs.Told.{tell, nothing}
 use Rattle.error.specs.declared.Refusal.the-variants.{Full}
-use Rattle.history.specs.declared.Items.{Items}
-use Rattle.history.specs.declared.Items.the-variants.{Nothing, Outcomes, Times}
+use Rattle.history.specs.declared.Items.the-variants.{Outcomes, Times}
 use Rattle.history.specs.Items.{view, padded, soundList, failures, recent, total, evicted}
-use Rattle.history.specs.Change.{Left, left, held, refuse, full, pushedOutcome, pushedTime, evictedTimes}
+use Rattle.history.specs.Change.{left, held, refuse, full, pushedOutcome, pushedTime, evictedTimes}
 use Rattle.history.proofs.Sound.{view-padded}
 use Rattle.history.proofs.Held.{outcome-held, time-held, time-full, evict-held, failures-le, failures-held}
 use Rattle.trip.specs.declared.Config.{Config}
-use Rattle.trip.specs.Policy.{Policy, Consecutive, Ratio, Windowed, policyOf, ratioReached, tripped}
-use Rattle.breaker.specs.declared.Ticket.{Ticket}
+use Rattle.trip.specs.Policy.{Consecutive, Ratio, Windowed, policyOf, ratioReached, tripped}
 use Rattle.breaker.specs.declared.Breaker.{Breaker}
-use Rattle.breaker.specs.Record.{Settings, State, HalfOpen, Closed, settings, stored, itemsOf, sound}
-use Rattle.breaker.specs.Rules.{Outcome, done, counting, withCounts, opening, closing, inHalfOpen, act, finish, settling, aborting, released, success, failure, abort, traitAbort}
-use Rattle.breaker.specs.Calls.{After, after, kept}
+use Rattle.breaker.specs.Record.{State, stored, itemsOf, sound}
+use Rattle.breaker.specs.Rules.{done}
+use Rattle.breaker.specs.Calls.{after, kept}
 use Rattle.steps.specs.Steps.{Holds}
 use Rattle.circuit.specs.Locked.{recording}
 use Rattle.breaker.proofs.Record.{sound→}

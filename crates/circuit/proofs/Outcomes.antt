@@ -1,5 +1,5 @@
 -- Each answer of settling an outcome, in HalfOpen and in Closed, from the tests that led to it. Assumes nothing.
-use mathlib.Core.Path.{_≡_, refl, sym, ap, ap₂, _∙_}
+use mathlib.Core.Path.{_≡_, refl, sym, ap, _∙_}
 use mathlib.Core.Bool.{Bool, true, false, _&&_, false≢true}
 use mathlib.Core.List.{List, [], _∷_}
 use Prim.Native.Nat.{ℕ, _+_, _-_, _^_, min, _≤_, _<_}
@@ -8,7 +8,7 @@ use native.Mathlib.Omega.{arith}
 use lib.ListN.{length, getD}
 use borrow.Author.Tests.{le-leb, lt-leb}
 use Rattle.error.specs.Choice.{if_then_else_}
-use Rattle.error.specs.Told.{Told, tell, refused, nothing}
+use Rattle.error.specs.Told.{tell, refused, nothing}
 use Rattle.error.specs.declared.Refusal.{Refusal}
 use Rattle.error.specs.declared.Refusal.the-variants.{Full}
 use Rattle.error.proofs.OneToOne.{no-refusal}
@@ -24,7 +24,7 @@ use Rattle.breaker.specs.Calls.{after, kept}
 use Rattle.steps.specs.Steps.{Holds}
 use Rattle.circuit.specs.Locked.{recording}
 use Rattle.breaker.proofs.Keeps.{SoundAt, sound-history, sound-recorded}
-use Rattle.circuit.proofs.Finishing.{kept-done, at-state}
+use Rattle.circuit.proofs.Finishing.{kept-done}
 
 -- ---- HalfOpen
 module _ (b : Breaker) (s : List ℕ) (c : Config) (st : State) (reading : ℕ) (t : Ticket) (good : Bool) (h : Holds c st b s) where

@@ -1,14 +1,11 @@
 -- The batch: one call, the turn of its loop, and its refusals. Assumes nothing.
 use mathlib.Core.Path.{_≡_, refl, sym, ap, ap₂, _∙_}
-use mathlib.Core.Bool.{Bool, true, false, not, _&&_}
+use mathlib.Core.Bool.{Bool, true, false}
 use mathlib.Core.List.{List, [], _∷_, _++_, append-nil}
 use Prim.Native.Nat.{ℕ, zero, suc, _+_, _≤_, _<_}
 use native.Mathlib.Numerals.{add-one}
-use native.Mathlib.Omega.{arith}
-use lib.Dec.{eqb}
 use lib.ListN.{length, drop, set, getD, length-append, drop-of-length-le}
 use lib.Seq.{drop-cons, append-snoc, set-at}
-use Rattle.error.specs.Choice.{if_then_else_}
 use Rattle.error.specs.Told.{Told, refused, nothing}
 use Rattle.error.specs.declared.Refusal.{Refusal}
 use Rattle.error.specs.declared.Refusal.the-variants.{Storage}
@@ -17,15 +14,15 @@ use Rattle.trip.specs.declared.Config.{Config}
 use Rattle.breaker.specs.declared.Ticket.{Ticket}
 use Rattle.breaker.specs.declared.Breaker.{Breaker}
 use Rattle.breaker.specs.declared.Tested.the-variants.{Sound, Refused}
-use Rattle.breaker.specs.Record.{Settings, State, settings, state, stored, sound}
-use Rattle.breaker.specs.Rules.{Call, Outcome, done, finish, settling, aborting}
+use Rattle.breaker.specs.Record.{State, settings, state, stored, sound}
+use Rattle.breaker.specs.Rules.{done, finish, settling, aborting}
 use Rattle.breaker.specs.Calls.{After, after, kept, guarded}
 use Rattle.breaker.specs.Orders.{Ran, run, inTurn}
-use Rattle.breaker.specs.Batch.{Slices, callBy, callAt, callsTo, calls, Batch, batch, numbers, alike, finishedAll}
+use Rattle.breaker.specs.Batch.{Slices, callBy, callAt, callsTo, calls, batch, numbers, alike, finishedAll}
 use Rattle.steps.specs.Steps.{Holds}
 use Rattle.breaker.proofs.Guard.{guarded-refused, guarded-done}
-use Rattle.breaker.proofs.Keeps.{SoundAt, sound-run, sound-state}
-use Rattle.breaker.proofs.Orders.{run-nil, run-snoc}
+use Rattle.breaker.proofs.Keeps.{sound-run, sound-state}
+use Rattle.breaker.proofs.Orders.{run-snoc}
 use Rattle.steps.proofs.Holding.{holds}
 
 -- ---- one call

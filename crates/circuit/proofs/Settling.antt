@@ -1,23 +1,20 @@
 -- Each answer of settle and of a manual outcome, from the tests that led to it. Assumes nothing.
-use mathlib.Core.Path.{_≡_, refl, sym, ap, ap₂, _∙_}
-use mathlib.Core.Bool.{Bool, true, false, _&&_}
+use mathlib.Core.Path.{_≡_, refl, sym, ap, _∙_}
+use mathlib.Core.Bool.{Bool, true, false}
 use mathlib.Core.List.{List}
-use Prim.Native.Nat.{ℕ, _+_, _-_, _≤_, _<_}
+use Prim.Native.Nat.{ℕ, _-_}
 use native.Mathlib.Nat.{sub-zero, add-zero}
 use native.Mathlib.Omega.{arith}
-use lib.Dec.{eqb, ltb}
 use borrow.Author.Tests.{eq-eqb, ne-eqb, lt-ltb, le-ltb}
 use Rattle.error.specs.Told.{nothing}
-use Rattle.error.specs.Choice.{if_then_else_}
-use Rattle.history.specs.Items.{padded}
 use Rattle.trip.specs.declared.Config.{Config}
 use Rattle.breaker.specs.declared.Ticket.{Ticket}
 use Rattle.breaker.specs.declared.Breaker.{Breaker}
 use Rattle.breaker.specs.Record.{Settings, State, HalfOpen, Closed, settings, stored, sound}
-use Rattle.breaker.specs.Rules.{Outcome, done, Call, ticket, ticketOf, probes, counting, withCounts, inHalfOpen, inClosed, act, finish, settling, aborting, abort, traitAbort, released, manual}
+use Rattle.breaker.specs.Rules.{done, Call, ticket, withCounts, inHalfOpen, inClosed, act, finish, settling, manual}
 use Rattle.breaker.specs.Calls.{after, kept}
 use Rattle.steps.specs.Steps.{Holds}
-use Rattle.breaker.proofs.Keeps.{SoundAt, sound-counts}
+use Rattle.breaker.proofs.Keeps.{sound-counts}
 use Rattle.breaker.proofs.Record.{sound→, shared→}
 use Rattle.circuit.proofs.Finishing.{kept-done, at-state}
 

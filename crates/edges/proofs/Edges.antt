@@ -1,28 +1,24 @@
 -- P1 to P12: the one proof of the list. Assumes nothing.
 use Prim.Native.Nat.{ℕ, _+_, _-_, _^_, _≤_}
 use native.Mathlib.Omega.{arith}
-use mathlib.Core.Path.{_≡_, refl, ap, _∙_}
-use mathlib.Core.Bool.{Bool, true, false}
-use mathlib.Core.List.{List, [], _∷_}
+use mathlib.Core.Path.{_≡_, refl}
+use mathlib.Core.Bool.{true}
 use lib.Count.{trailingZeros}
-use lib.Dec.{eqb, leb, ltb}
+use lib.Dec.{leb}
 use lib.Ieee.{toBits, isNan, round, le, lt, eq, size, span, climb, units, odd, ofBits, ofFields}
-use borrow.Author.Tests.{eq-eqb, le-leb}
-use Rattle.error.specs.Told.{Told, tell}
+use borrow.Author.Tests.{le-leb}
 use Rattle.history.specs.Items.{sumOf, evicted}
 use Rattle.trip.specs.Settings.{clampedRatio, builtOf}
 use Rattle.trip.specs.Policy.{ratioReached, tripped}
 use Rattle.breaker.specs.Rules.{admit, inClosed, act, finish, stillAdmits}
 use Rattle.breaker.specs.Orders.{run}
 use Rattle.wait.specs.declared.Wait.{Wait}
-use Rattle.wait.specs.declared.Turning.{Turning}
-use Rattle.wait.specs.declared.Observed.{Observed}
 use Rattle.wait.specs.declared.Turned.the-variants.{Next, Ends}
 use Rattle.wait.specs.declared.Act.the-variants.{Yield}
 use Rattle.wait.specs.declared.Ending.the-variants.{Deadline}
 use Rattle.wait.specs.Turns.{endedWait, newWait, withZeros, turnInBounds, waitInBounds, retries, retriesZero}
-use Rattle.wait.specs.Keep.{turning, moves, turned, tellTurn}
-use Rattle.edges.specs.Edges.{retryNow, tells, yields, P2, P3, P4, P5, P6, P7, P9, P10, P11, P12, edges, All}
+use Rattle.wait.specs.Keep.{turning, moves, turned}
+use Rattle.edges.specs.Edges.{retryNow, P2, P3, P4, P5, P6, P7, P9, P10, P11, P12, edges, All}
 
 p2 : P2
 unfolding clampedRatio isNan

@@ -6,7 +6,7 @@
 --     recent-more, recent-next   differences without the top bit are of items at or after the cutoff
 use mathlib.Core.Path.{_≡_, refl, sym, ap, ap₂, _∙_}
 use mathlib.Core.Logic.{_⊎_, inl, inr}
-use mathlib.Core.Bool.{Bool, true, false, _&&_}
+use mathlib.Core.Bool.{Bool, true, false}
 use mathlib.Core.List.{List, [], _∷_, _++_}
 use Prim.Native.Nat.{ℕ, zero, suc, _+_, _-_, _≤_, _<_, _^_, _%_, zero-le}
 use native.Mathlib.Nat.{zero-add, add-zero, add-assoc}
@@ -15,7 +15,7 @@ use native.Mathlib.Omega.{arith}
 use lib.Bits.{bitOr, or-comm}
 use lib.ListN.{length, take, getD, length-take, length-append}
 use lib.Seq.{take-suc}
-use lib.Dec.{ltb, leb, eqb}
+use lib.Dec.{ltb, eqb}
 use borrow.Author.Tests.{ltb-true, le-leb}
 use Rattle.error.specs.Choice.{if_then_else_}
 use Rattle.history.specs.Items.{allBelow, sumOf, total, failures, recent}

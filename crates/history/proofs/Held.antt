@@ -2,14 +2,14 @@
 --     outcome-held, outcome-sound   Ratio
 --     time-held, time-full, time-sound, evict-held, evict-sound   Windowed
 --     clear-held, clear-sound       any kind
-use mathlib.Core.Path.{_≡_, refl, sym, ap, _∙_}
-use mathlib.Core.Bool.{Bool, true, false, _&&_}
+use mathlib.Core.Path.{_≡_, refl, ap, _∙_}
+use mathlib.Core.Bool.{true, false}
 use mathlib.Core.List.{List, [], _∷_, _++_}
 use Prim.Native.Nat.{ℕ, _+_, _-_, _%_, _^_, _≤_, _<_}
 use native.Mathlib.Omega.{arith}
-use lib.ListN.{length, drop, length-append, length-drop, drop-of-length-le}
+use lib.ListN.{length, length-append, length-drop, drop-of-length-le}
 use lib.Seq.{length-take-le}
-use lib.Dec.{ltb, leb, eqb}
+use lib.Dec.{eqb}
 use borrow.Author.Tests.{lt-ltb, le-leb, leb-false, eq-eqb}
 use Rattle.error.specs.Told.{tell}
 use Rattle.error.specs.declared.Refusal.the-variants.{Full}
@@ -20,7 +20,7 @@ use Rattle.history.specs.Change.{Left, left, held, become, refuse, onLis
 use Rattle.history.proofs.Laws.{below-append, below-drop}
 use Rattle.history.proofs.Counts.{count-le, total-failures}
 use Rattle.history.proofs.Laid.{laid-padded}
-use Rattle.history.proofs.Sound.{Sound, sound→, →sound, fits-outcomes, outcomes-fit}
+use Rattle.history.proofs.Sound.{sound→, →sound, fits-outcomes, outcomes-fit}
 use Rattle.history.proofs.Change.{evicted-le, evicted-more}
 
 pub newest-le : (w : ℕ) (ys : List ℕ) → length (newest w ys) ≤ w

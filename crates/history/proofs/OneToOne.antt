@@ -1,11 +1,9 @@
 -- An answer is known by what it tells. Assumes nothing.
-use Prim.Native.Nat.{ℕ}
 use mathlib.Core.Path.{_≡_, refl, sym, ap, _∙_}
-use mathlib.Core.List.{List, [], _∷_}
 use lib.Dec.{eqb}
 use lib.ListN.{getD}
 use Rattle.error.specs.Choice.{if_then_else_}
-use Rattle.error.specs.Told.{Told, numberOf}
+use Rattle.error.specs.Told.{Told}
 use Rattle.error.proofs.OneToOne.{named, named-number, number-not-0}
 use Rattle.history.specs.declared.Changed.{Changed}
 use Rattle.history.specs.declared.Changed.the-variants.{Stored, Refused}

@@ -1,25 +1,24 @@
 -- Each answer of an abort and of a release, from the tests that led to it. Assumes nothing.
-use mathlib.Core.Path.{_≡_, refl, sym, ap, _∙_}
+use mathlib.Core.Path.{_≡_, refl, sym, ap, ap₂, _∙_}
 use mathlib.Core.Bool.{Bool, true, false, _&&_}
+use mathlib.Core.List.{List}
 use Prim.Native.Nat.{ℕ, _+_, _-_}
-use native.Mathlib.Nat.{sub-zero, add-zero}
+use native.Mathlib.Nat.{add-zero}
 use native.Mathlib.Omega.{arith}
 use lib.Dec.{eqb, ltb}
 use borrow.Author.Tests.{eq-eqb, ne-eqb, lt-ltb, le-ltb}
-use Rattle.error.specs.Told.{nothing}
+use Rattle.error.specs.Told.{Told, nothing}
 use Rattle.error.specs.Choice.{if_then_else_}
 use Rattle.history.specs.Items.{padded}
 use Rattle.trip.specs.declared.Config.{Config}
 use Rattle.breaker.specs.declared.Ticket.{Ticket}
 use Rattle.breaker.specs.declared.Breaker.{Breaker}
 use Rattle.breaker.specs.Record.{Settings, State, HalfOpen, Closed, settings, stored}
-use Rattle.breaker.specs.Rules.{Outcome, done, ticket, probes, counting, withCounts, inClosed, act, finish, aborting, released}
-use Rattle.breaker.specs.Calls.{after, kept}
+use Rattle.breaker.specs.Rules.{outcome, done, ticket, probes, counting, withCounts, inClosed, act, finish, aborting, released}
+use Rattle.breaker.specs.Calls.{After, after, kept}
+use Rattle.breaker.proofs.Orders.{counting-none}
 
 -- ---- abort
-counting-none : (st : State) → counting 0 0 0 st ≡ st
-counting-none st = rw (sub-zero, sub-zero, add-zero)
-
 ticket-aborting : (t : Ticket) (via : Bool) → ticket (aborting t via) ≡ t
 ticket-aborting t true = refl
 ticket-aborting t false = refl
@@ -83,6 +82,12 @@ module _ (b : Breaker) (c : Config) (st : State) (reading : ℕ) (t : Ticket) (v
       let less = withCounts (st .inflight - 1) (st .traitProbes - (if via then 1 else 0)) (st .successes + 0) st in
       let a : finish (settings c) reading (aborting t via) st ≡ done less = tests (settings c) reading t via st ∙ rw (eq-eqb _ _ (rw e at g), eq-eqb _ _ (rw e at k), p) in
       ap (kept c) a ∙ rw (r, i, q, e, add-zero)
+
+-- what an abort leaves, beside whatever is told, over the places s
+pub given-back : (told : Told) (c : Config) (reading : ℕ) (t : Ticket) (via : Bool) (st : State) (next : Breaker) (s : List ℕ)
+    → kept c (finish (settings c) reading (aborting t via) st) ≡ after nothing next (padded (st .list)) → s ≡ padded (st .list)
+    → after told next s ≡ kept c (outcome told (finish (settings c) reading (aborting t via) st .after))
+given-back told c reading t via st next s e l = ap₂ (after told) (sym (ap (λ (a : After). a .breaker) e)) (l ∙ sym (ap (λ (a : After). a .places) e))
 
 -- ---- release
 module _ (b : Breaker) (c : Config) (st : State) (e : b ≡ stored c st) where

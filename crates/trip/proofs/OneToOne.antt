@@ -1,7 +1,7 @@
 -- An answer is known by what it tells. Assumes nothing.
 use Prim.Native.Nat.{ℕ}
 use mathlib.Core.Path.{_≡_, refl, sym, ap, _∙_}
-use mathlib.Core.List.{List, [], _∷_}
+use mathlib.Core.List.{List}
 use lib.Dec.{eqb}
 use lib.ListN.{getD}
 use Rattle.error.specs.Choice.{if_then_else_}

@@ -1,14 +1,13 @@
 -- Laws on durations, normalising and the settings of a record. Assumes nothing.
-use mathlib.Core.Path.{_≡_, refl, sym, ap, _∙_}
-use mathlib.Core.Bool.{Bool, true, false, not, _&&_}
-use mathlib.Core.List.{List, [], _∷_}
+use mathlib.Core.Path.{_≡_, refl, sym, ap}
+use mathlib.Core.Bool.{Bool, true, false, not}
+use mathlib.Core.List.{[], _∷_}
 use Prim.Native.Nat.{ℕ, _*_, _%_, _^_, _<_, min, max}
 use native.Mathlib.Omega.{arith}
-use lib.IntN.{pos}
-use lib.Dec.{T, eqb}
+use lib.Dec.{T}
 use lib.ListN.{getD}
 use borrow.Author.Tests.{eq-eqb, lt-ltb}
-use lib.Ieee.{Float, nan, inf, fin, up, down, lt, eq, ne, isNan}
+use lib.Ieee.{Float, nan, inf, fin, up, down, lt, ne, isNan}
 use Rattle.error.specs.Choice.{if_then_else_}
 use Rattle.error.specs.Told.{Told, tell, refused}
 use Rattle.error.specs.declared.Refusal.{Refusal}

@@ -1,7 +1,6 @@
 // Settings and policies (from circuit.rs: Trip, CircuitBreakerBuilder, Config, tripped).
 ghost use mathlib.Core.Path.{_≡_};
 ghost use Prim.Native.Nat.{min, max};
-ghost use lib.Dec.{leb};
 ghost use lib.Ieee.{binary64, ofBits};
 ghost use Rattle.trip.specs.Settings.{millisTold, millisOf, ofMillis, clampedRatio, normalisedRatio, normalisedTrip, builtTold, settingsOf, builtOf, defaultBuilder, withTrip, withCooldown, withHalfOpen};
 ghost use Rattle.trip.specs.Policy.{runReached, ratioReached, timesReached, boardFigure};

@@ -4,9 +4,7 @@ use mathlib.Core.Path.{_≡_, refl, ap, _∙_}
 use mathlib.Core.List.{List, [], _∷_}
 use lib.Dec.{eqb}
 use Rattle.error.specs.Choice.{if_then_else_}
-use Rattle.error.specs.Told.{Told}
 use Rattle.error.proofs.OneToOne.{one, read, read-refused, at}
-use Rattle.wait.specs.declared.Wait.{Wait}
 use Rattle.wait.specs.declared.Act.{Act}
 use Rattle.wait.specs.declared.Act.the-variants as Act·is
 use Rattle.wait.specs.declared.Ending.{Ending}

@@ -1,7 +1,7 @@
 -- A run is its turns one by one, a run that is not ended can be gone on with, and a new wait and what a turn leaves are within their bounds. Assumes nothing.
-use Prim.Native.Nat.{ℕ, suc, _+_, _-_, _≤_, max}
+use Prim.Native.Nat.{ℕ, _+_, _-_}
 use native.Mathlib.Omega.{arith}
-use mathlib.Core.Path.{_≡_, refl, sym, ap, ap₂, _∙_}
+use mathlib.Core.Path.{_≡_, refl, sym, ap, _∙_}
 use mathlib.Core.Bool.{Bool, true, false, not, _&&_, _||_, false≢true}
 use mathlib.Core.List.{List, [], _∷_, _++_}
 use lib.Dec.{eqb, leb}
@@ -18,7 +18,7 @@ use Rattle.wait.specs.declared.Ran.the-variants as Ran·is
 use Rattle.wait.specs.declared.Running.{Running}
 use Rattle.wait.specs.Turns.{isHolding, hasEnded, isTime, newWait, turnInBounds, waitInBounds, remaining, exceeds, usedUp, withZeros, naps, retriesZero, retries}
 use Rattle.wait.specs.Keep.{isKnown, tested, postponed, napOf, checks, grants, moves, leaves, turning, turned}
-use Rattle.wait.specs.Run.{running, counted, standing, onward, steps}
+use Rattle.wait.specs.Run.{running, counted, onward, steps}
 use Rattle.wait.proofs.Limits.{time-le, times, bounded, →bounded}
 use Rattle.wait.proofs.Steps.{grant-bounded}
 use Rattle.wait.proofs.Walks.{in-order, counting}

@@ -1,17 +1,15 @@
 -- The steps of a turn, by the tests that the code makes. Assumes nothing.
-use Prim.Native.Nat.{ℕ, _+_, _-_, _≤_, _<_, _^_, min, max}
+use Prim.Native.Nat.{ℕ, _+_, _-_, _≤_, _<_, _^_, min}
 use native.Mathlib.Omega.{arith}
 use mathlib.Core.Path.{_≡_, refl, sym, ap, _∙_}
-use mathlib.Core.Bool.{Bool, true, false}
-use lib.Dec.{eqb, leb, ltb}
+use mathlib.Core.Bool.{true, false}
 use borrow.Author.Tests.{eq-eqb, ne-eqb, le-leb, lt-leb, lt-ltb, le-ltb}
 use Rattle.error.specs.Choice.{if_then_else_}
 use Rattle.wait.specs.declared.Wait.{Wait}
 use Rattle.wait.specs.declared.Observed.{Observed}
-use Rattle.wait.specs.declared.Act.the-variants.{Sleep, SleepUnlessResumed, Yield, LookAgain}
-use Rattle.wait.specs.declared.Ending.the-variants.{Done, Deadline, Never}
+use Rattle.wait.specs.declared.Act.the-variants.{Sleep, Yield}
+use Rattle.wait.specs.declared.Ending.the-variants.{Done, Deadline}
 use Rattle.wait.specs.declared.Dropped.the-variants.{GiveBack}
-use Rattle.wait.specs.declared.Move.{Move}
 use Rattle.wait.specs.declared.Move.the-variants.{Goes, Ends}
 use Rattle.wait.proofs.Limits.{times, bounded, →bounded}
 use Rattle.wait.specs.Budget.{budget}

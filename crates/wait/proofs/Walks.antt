@@ -1,10 +1,9 @@
 -- A turn and a run of turns, by their tests and steps. Assumes nothing.
-use Prim.Native.Nat.{ℕ, zero, suc, _+_, _-_, _/_, _%_, _≤_, _<_}
+use Prim.Native.Nat.{ℕ, suc, _+_, _-_, _/_, _%_, _≤_, _<_}
 use native.Mathlib.Omega.{arith}
 use mathlib.Core.Path.{_≡_, refl, sym, ap, _∙_}
 use mathlib.Core.Bool.{Bool, true, false, not, _&&_, _||_, false≢true}
 use mathlib.Core.List.{List, [], _∷_}
-use lib.Dec.{eqb}
 use lib.ListN.{length, take, drop, getD, length-drop}
 use lib.Seq.{take-nil, drop-drop, getD-drop}
 use borrow.Author.Tests.{eq-eqb, ne-eqb}
@@ -24,7 +23,7 @@ use Rattle.wait.specs.declared.Ran.the-variants as Ran·is
 use Rattle.wait.specs.declared.Running.{Running}
 use Rattle.wait.specs.Turns.{endedWait, hasEnded, turnInBounds, waitInBounds}
 use Rattle.wait.specs.Keep.{turning, leaves, isKnown, inOrder, tested, moves, turned}
-use Rattle.wait.specs.Run.{running, counted, standing, steps, turnOf, turnsOf, runs}
+use Rattle.wait.specs.Run.{running, standing, steps, turnOf, turnsOf, runs}
 
 -- ---- the tests of a turn
 

@@ -22,11 +22,12 @@ use Rattle.steps.specs.Steps.{entry}
 use Rattle.admission.proofs.Admitting.{admitted-shed, admitted-granted}
 use Rattle.breaker.specs.Record.{State, Closed, Open, settings, state, stored, sound}
 use Rattle.breaker.specs.Answers.{ticketValues, delayValues}
-use Rattle.breaker.specs.Rules.{Outcome, outcome, Admitted, granted, shed, admit, admitAs, viaTrait, done, sheds, stillAdmits, finish, aborting}
+use Rattle.breaker.specs.Rules.{Admitted, granted, shed, admit, admitAs, viaTrait, sheds, stillAdmits, finish, aborting}
 use Rattle.breaker.specs.Calls as Breaker·calls
 use Rattle.breaker.specs.Calls.{kept, answered, asked, guarded}
 use Rattle.breaker.proofs.Record.{stored-state, padded-state}
-use Rattle.breaker.proofs.Guard.{guarded-refused, guarded-done, asked-done}
+use Rattle.breaker.proofs.Guard.{guarded-refused, guarded-done, asked-done, unchanged}
+use Rattle.steps.proofs.Aborting.{given-back}
 use Rattle.breaker.proofs.OneToOne.{ticketIn, ticket-back}
 use Rattle.wait.specs.declared.Wait.{Wait}
 use Rattle.wait.specs.declared.Observed.{Observed}
@@ -61,14 +62,7 @@ use Rattle.waiting.specs.Calls.{After, after, pending, beside, begins, s
 pub aborted : (told : Told) (t : Ticket) (b next : Breaker) (s : List ℕ) → sound b s ≡ true
     → ((c : Config) (st : State) (reading : ℕ) → b ≡ stored c st → kept c (finish (settings c) reading (aborting t false) st) ≡ Breaker·calls.after nothing next (padded (st .list)))
     → Breaker·calls.after told next s ≡ kept (b .config) (afterAbort told t (settings (b .config)) (state b s))
-aborted told t b next s ok h =
-    ap (Breaker·calls.after told next) (padded-state b s ok)
-    ∙ ap (λ (a : Breaker·calls.After). Breaker·calls.after told (a .breaker) (a .places)) (sym (h (b .config) (state b s) 0 (stored-state b s ok)))
-
--- an outcome that leaves the state as it was
-pub unchanged : (told : Told) (b : Breaker) (s : List ℕ) → sound b s ≡ true → Breaker·calls.after told b s ≡ kept (b .config) (outcome told (state b s))
-unchanged told b s ok =
-    ap (λ (x : Breaker). Breaker·calls.after told x s) (stored-state b s ok) ∙ ap (Breaker·calls.after told (stored (b .config) (state b s))) (padded-state b s ok)
+aborted told t b next s ok h = given-back told (b .config) 0 t false (state b s) next s (h (b .config) (state b s) 0 (stored-state b s ok)) (padded-state b s ok)
 
 -- ---- completion, by the verdict
 

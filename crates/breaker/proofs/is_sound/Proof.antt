@@ -1,5 +1,5 @@
 -- `breaker::is_sound` meets its contract: each `return` is what the tests on its way make of the definition. Assumes nothing.
-use mathlib.Core.Path.{_≡_, refl, sym, ap, _∙_}
+use mathlib.Core.Path.{sym, ap, _∙_}
 use borrow.Author.Needs.{needs}
 use borrow.Author.Tests.{le-leb, lt-leb, not-true, not-false}
 use Rattle.history.specs.declared.Items.{Items}

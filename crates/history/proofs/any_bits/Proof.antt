@@ -1,5 +1,5 @@
 -- `history::any_bits` meets its contract. The loop's invariant: the bits so far are those of every item passed. Assumes nothing.
-use Prim.Native.Nat.{ℕ, _+_, _≤_, _-_, _^_}
+use Prim.Native.Nat.{_+_, _≤_, _-_, _^_}
 use native.Mathlib.Omega.{arith}
 use borrow.Author.Needs.{needs}
 use lib.ListN.{length, take}

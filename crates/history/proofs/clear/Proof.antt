@@ -1,13 +1,13 @@
 -- `history::clear` meets its contract: all items are the oldest, and go. Assumes nothing.
-use Prim.Native.Nat.{ℕ, _≤_}
-use mathlib.Core.Path.{_≡_, sym, ap, _∙_}
-use mathlib.Core.List.{List, [], _∷_}
+use Prim.Native.Nat.{_≤_}
+use mathlib.Core.Path.{_≡_, sym, _∙_}
+use mathlib.Core.List.{[]}
 use native.Mathlib.Omega.{arith}
 use borrow.Author.Needs.{needs}
 use borrow.Author.Tests.{eq-eqb, ne-eqb, le-leb, not-true, not-false, leb-true}
-use lib.ListN.{length, take, drop, drop-of-length-le}
+use lib.ListN.{take, drop, drop-of-length-le}
 use lib.Seq.{length-take-le}
-use Rattle.history.specs.Change.{laid, cleared}
+use Rattle.history.specs.Change.{cleared}
 use Rattle.history.proofs.clear.Statement.{statement}
 use Rattle.history.proofs.clear.Tie as tie
 

@@ -1,9 +1,9 @@
 -- `history::count_failures` meets its contract: the part that is summed is the list. Assumes nothing.
-use Prim.Native.Nat.{ℕ, _%_, _^_}
-use mathlib.Core.Path.{_≡_, sym, ap, _∙_}
+use Prim.Native.Nat.{_%_, _^_}
+use mathlib.Core.Path.{sym, ap, _∙_}
 use native.Mathlib.Omega.{arith}
 use borrow.Author.Needs.{needs}
-use lib.ListN.{length, take}
+use lib.ListN.{take}
 use lib.Seq.{length-take-le}
 use Rattle.history.specs.Items.{total}
 use Rattle.history.proofs.Laws.{take-min}

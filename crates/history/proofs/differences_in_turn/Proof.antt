@@ -1,6 +1,6 @@
 -- `history::differences_in_turn` meets its contract. The loop's invariant: the bits so far are those of the elements passed. Assumes nothing.
-use Prim.Native.Nat.{ℕ, _≤_, _-_}
-use mathlib.Core.Path.{_≡_, refl, subst}
+use Prim.Native.Nat.{_≤_, _-_}
+use mathlib.Core.Path.{refl, subst}
 use borrow.Author.Needs.{needs}
 use lib.ListN.{length, take}
 use lib.Seq.{take-all}

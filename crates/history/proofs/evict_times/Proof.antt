@@ -1,11 +1,11 @@
 -- `history::evict_times` meets its contract: each `return` is what the tests on its way make of the definition. Assumes nothing.
-use Prim.Native.Nat.{ℕ, _≤_}
-use mathlib.Core.Path.{_≡_, sym, _∙_}
+use Prim.Native.Nat.{_≤_}
+use mathlib.Core.Path.{sym, _∙_}
 use native.Mathlib.Omega.{arith}
 use borrow.Author.Needs.{needs}
 use borrow.Author.Tests.{eq-eqb, ne-eqb, not-true, not-false, leb-true}
 use Rattle.history.specs.Change.{evictedTimes}
-use Rattle.history.proofs.Change.{Front, evict-done}
+use Rattle.history.proofs.Change.{evict-done}
 use Rattle.history.proofs.evict_times.Statement.{statement}
 use Rattle.history.proofs.evict_times.Tie as tie
 

@@ -1,11 +1,11 @@
 -- `history::shift` meets its contract. The loop's invariant: the first i elements are those from k on, and the others are as they were. Assumes nothing.
 use Prim.Native.Nat.{ℕ, _≤_, _<_, _-_, _+_}
-use mathlib.Core.Path.{_≡_, refl, sym, ap, _∙_}
+use mathlib.Core.Path.{_≡_, refl, ap, _∙_}
 use mathlib.Core.List.{List, _++_}
 use native.Mathlib.Nat.{le-antisymm}
 use native.Mathlib.Omega.{arith}
 use borrow.Author.Needs.{needs}
-use lib.ListN.{length, take, drop, set, getD, length-set, take-append-drop}
+use lib.ListN.{length, take, drop, set, getD, length-set}
 use Rattle.history.proofs.Laws.{slid-read, slid-set}
 use Rattle.history.proofs.shift.Statement.{statement}
 use Rattle.history.proofs.shift.Tie as tie

@@ -1,11 +1,9 @@
 -- `history::sound_list` meets its contract: each `return` is what the tests on its way make of the definition. Assumes nothing.
-use Prim.Native.Nat.{_≤_}
-use mathlib.Core.Path.{_≡_, sym, ap, _∙_}
+use mathlib.Core.Path.{_≡_, sym, _∙_}
 use mathlib.Core.Bool.{true, _&&_}
 use native.Mathlib.Omega.{arith}
 use borrow.Author.Needs.{needs}
 use borrow.Author.Tests.{eq-eqb, ne-eqb, lt-ltb, le-ltb, not-true, not-false}
-use lib.ListN.{length}
 use lib.Seq.{length-take-le}
 use lib.Dec.{ltb}
 use Rattle.history.specs.Items.{soundList, known, fits, view}

@@ -1,5 +1,5 @@
 -- `history::sum_in_turn` meets its contract. The loop's invariant: the sum is that of the elements passed, wrapped. Assumes nothing.
-use Prim.Native.Nat.{ℕ, _≤_, _-_, _%_, _^_}
+use Prim.Native.Nat.{_≤_, _-_, _%_, _^_}
 use mathlib.Core.Path.{_≡_, refl, ap, _∙_}
 use native.Mathlib.Omega.{arith}
 use borrow.Author.Needs.{needs}

@@ -1,5 +1,4 @@
 -- `trip::board_figure` meets its contract: each `return` is what the test on its way makes of the definition. Assumes nothing.
-use mathlib.Core.Path.{_≡_}
 use borrow.Author.Needs.{needs}
 use borrow.Author.Tests.{eq-eqb, ne-eqb}
 use Rattle.trip.proofs.board_figure.Statement.{statement}

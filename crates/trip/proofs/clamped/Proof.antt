@@ -1,6 +1,6 @@
 -- `trip::clamped` meets its contract: each `return` is what the tests on its way make of the definition. Assumes nothing.
-use mathlib.Core.Path.{_≡_, refl, sym, _∙_}
-use lib.Ieee.{ofBits, odd}
+use mathlib.Core.Path.{sym, _∙_}
+use lib.Ieee.{ofBits}
 use Rattle.trip.specs.Settings.{clampedRatio}
 use Rattle.trip.proofs.Settings.{nan-differs}
 use Rattle.trip.proofs.clamped.Statement.{statement}

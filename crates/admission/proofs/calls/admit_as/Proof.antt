@@ -1,12 +1,11 @@
 -- `admission::calls::admit_as` meets its contract: each answer of the step, once the breaker is tested. Assumes nothing.
-use mathlib.Core.Path.{_≡_, refl, sym, ap, _∙_}
+use mathlib.Core.Path.{_≡_, sym, _∙_}
 use mathlib.Core.Bool.{true}
 use borrow.Author.Needs.{needs}
 use Rattle.breaker.specs.Record.{state, sound}
 use Rattle.breaker.specs.Calls as Calls
-use Rattle.breaker.specs.Rules as Rules
 use Rattle.admission.proofs.Admitting.{admitted-shed, admitted-granted}
-use Rattle.breaker.proofs.Guard.{tested-sound, sound-refused, sound-done, sound-fields}
+use Rattle.breaker.proofs.Guard.{tested-sound, sound-refused, sound-done}
 use Rattle.steps.proofs.Holding.{holds}
 use Rattle.admission.proofs.calls.admit_as.Statement.{statement}
 use Rattle.admission.proofs.calls.admit_as.Tie as tie

@@ -1,16 +1,16 @@
 -- `admission::calls::try_admit` meets its contract: each answer of the admission with the inner reply. Assumes nothing.
-use mathlib.Core.Path.{_≡_, refl, sym, ap, _∙_}
+use mathlib.Core.Path.{_≡_, sym, ap, _∙_}
 use mathlib.Core.Bool.{true}
 use borrow.Author.Needs.{needs}
 use Rattle.breaker.specs.Record.{state, sound}
 use Rattle.breaker.specs.Calls as Calls
 use Rattle.breaker.specs.Rules as Rules
 use mathlib.Core.List.{[], _∷_}
-use Rattle.error.specs.Told.{Told, tell}
+use Rattle.error.specs.Told.{tell}
 use Rattle.breaker.specs.declared.Decision.{Decision}
 use Rattle.breaker.specs.Record.{settings}
 use Rattle.admission.proofs.Admitting.{tried-shed, tried-granted, tried-back}
-use Rattle.breaker.proofs.Guard.{tested-sound, sound-refused, sound-done, sound-fields}
+use Rattle.breaker.proofs.Guard.{tested-sound, sound-refused, sound-done}
 use Rattle.steps.proofs.Holding.{holds}
 use Rattle.admission.proofs.calls.try_admit.Statement.{statement}
 use Rattle.admission.proofs.calls.try_admit.Tie as tie

@@ -4,16 +4,14 @@ use mathlib.Core.Bool.{true}
 use borrow.Author.Needs.{needs}
 use Rattle.breaker.specs.Record.{state, sound}
 use Rattle.breaker.specs.Calls as Calls
-use Rattle.breaker.specs.Rules as Rules
-use mathlib.Core.List.{[], _∷_}
-use Rattle.error.specs.Told.{Told, tell}
+use Rattle.error.specs.Told.{tell}
 use Rattle.breaker.specs.declared.Decision.{Decision}
 use Rattle.breaker.specs.declared.Decision.the-variants.{Retry}
 use Rattle.breaker.specs.declared.Delay.{Delay}
 use Rattle.breaker.specs.Record.{settings}
 use Rattle.breaker.specs.Answers.{decisionValues}
 use Rattle.admission.proofs.Admitting.{handed-shed, handed-on, handed-back}
-use Rattle.breaker.proofs.Guard.{tested-sound, sound-refused, sound-done, sound-fields}
+use Rattle.breaker.proofs.Guard.{tested-sound, sound-refused, sound-done}
 use Rattle.steps.proofs.Holding.{holds}
 use Rattle.admission.proofs.limiter.acquire_cost.Statement.{statement}
 use Rattle.admission.proofs.limiter.acquire_cost.Tie as tie
@@ -65,7 +63,7 @@ same-length-2 c = search needs
 
 returns-2 : tie.Need-returns-2
 returns-2 c =
-    handed-shed (c .before .before .before .before .before .before .before .before .before .args .now-ms) (c .before .before .before .before .before .before .before .before .before .args .breaker) (c .before .before .before .before .before .before .before .before .before .args .list .now) (tested (c .before .before .before .before)) (λ a. Calls.acquireInner (c .before .before .before .before .before .before .before .before .before .args .inner) (c .before .before .before .before .before .before .before .before .before .args .now-ms) (settings (c .before .before .before .before .before .before .before .before .before .args .breaker .config)) a (state (c .before .before .before .before .before .before .before .before .before .args .breaker) (c .before .before .before .before .before .before .before .before .before .args .list .now))) (tell 0 (decisionValues (Retry (c .before .d .given .0 .0)))) Calls.retry (λ ms. refl) (c .before .d .given .0 .0) (sym (c .before .d .given .1) ∙ c .before .before .before .admit-as-locked .ensures (c .before .before .before .before .before .before .before .before .before .args .breaker .config) (state (c .before .before .before .before .before .before .before .before .before .args .breaker) (c .before .before .before .before .before .before .before .before .before .args .list .now)) (holds (c .before .before .before .before .before .before .before .before .before .args .breaker) (c .before .before .before .before .before .before .before .before .before .args .list .now) (tested (c .before .before .before .before)) .0)) (λ ms r. ap (λ (x : Delay). tell 0 (decisionValues (Retry x))) r)
+    handed-shed (c .before .before .before .before .before .before .before .before .before .args .now-ms) (c .before .before .before .before .before .before .before .before .before .args .breaker) (c .before .before .before .before .before .before .before .before .before .args .list .now) (tested (c .before .before .before .before)) (λ a. Calls.acquireInner (c .before .before .before .before .before .before .before .before .before .args .inner) (c .before .before .before .before .before .before .before .before .before .args .now-ms) (settings (c .before .before .before .before .before .before .before .before .before .args .breaker .config)) a (state (c .before .before .before .before .before .before .before .before .before .args .breaker) (c .before .before .before .before .before .before .before .before .before .args .list .now))) (tell 0 (decisionValues (Retry (c .before .d .given .0 .0)))) (λ ms. tell 0 (decisionValues (Calls.retry ms))) (λ ms. refl) (c .before .d .given .0 .0) (sym (c .before .d .given .1) ∙ c .before .before .before .admit-as-locked .ensures (c .before .before .before .before .before .before .before .before .before .args .breaker .config) (state (c .before .before .before .before .before .before .before .before .before .args .breaker) (c .before .before .before .before .before .before .before .before .before .args .list .now)) (holds (c .before .before .before .before .before .before .before .before .before .args .breaker) (c .before .before .before .before .before .before .before .before .before .args .list .now) (tested (c .before .before .before .before)) .0)) (λ ms r. ap (λ (x : Delay). tell 0 (decisionValues (Retry x))) r)
     ∙ sound-done (Calls.acquireCost (c .before .before .before .before .before .before .before .before .before .args .inner) (c .before .before .before .before .before .before .before .before .before .args .now-ms)) (c .before .before .before .before .before .before .before .before .before .args .breaker) (c .before .before .before .before .before .before .before .before .before .args .list .now) (tested (c .before .before .before .before))
 
 same-length-3 : tie.Need-same-length-3

@@ -1,5 +1,5 @@
 -- `admission::limiter::available` meets its contract: each answer of the admission with the inner reply. Assumes nothing.
-use mathlib.Core.Path.{_≡_, refl, sym, ap, _∙_}
+use mathlib.Core.Path.{_≡_, sym, ap, _∙_}
 use mathlib.Core.Bool.{true}
 use borrow.Author.Needs.{needs}
 use Rattle.error.specs.Choice.{if_then_else_}

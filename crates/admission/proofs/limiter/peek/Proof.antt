@@ -1,10 +1,9 @@
 -- `admission::limiter::peek` meets its contract: each answer of the admission. Assumes nothing.
-use mathlib.Core.Path.{_≡_, refl, sym, ap, _∙_}
+use mathlib.Core.Path.{_≡_, sym, _∙_}
 use mathlib.Core.Bool.{true}
 use borrow.Author.Needs.{needs}
 use Rattle.breaker.specs.Record.{state, sound}
 use Rattle.breaker.specs.Calls as Calls
-use Rattle.breaker.specs.Rules as Rules
 use Rattle.admission.proofs.Admitting.{peeked-shed, peeked-granted}
 use Rattle.breaker.proofs.Guard.{tested-sound, asked-refused, asked-done}
 use Rattle.steps.proofs.Holding.{holds}

@@ -1,5 +1,5 @@
 -- `admission::limiter::refund` meets its contract: the step, once the breaker is tested. Assumes nothing.
-use mathlib.Core.Path.{_≡_, refl, sym, ap, _∙_}
+use mathlib.Core.Path.{_≡_, refl, sym, _∙_}
 use mathlib.Core.Bool.{true}
 use borrow.Author.Needs.{needs}
 use Rattle.breaker.specs.Record.{state, sound}
@@ -8,7 +8,7 @@ use Rattle.breaker.specs.Rules as Rules
 use mathlib.Core.List.{[], _∷_}
 use Rattle.error.specs.Told.{tell}
 use Rattle.steps.proofs.Aborting.{released-list}
-use Rattle.breaker.proofs.Guard.{tested-sound, sound-refused, sound-done, sound-fields}
+use Rattle.breaker.proofs.Guard.{tested-sound, sound-refused, sound-fields}
 use Rattle.steps.proofs.Holding.{holds}
 use Rattle.admission.proofs.limiter.refund.Statement.{statement}
 use Rattle.admission.proofs.limiter.refund.Tie as tie

@@ -4,15 +4,13 @@ use mathlib.Core.Bool.{true}
 use borrow.Author.Needs.{needs}
 use Rattle.breaker.specs.Record.{state, sound}
 use Rattle.breaker.specs.Calls as Calls
-use Rattle.breaker.specs.Rules as Rules
-use mathlib.Core.List.{[], _∷_}
-use Rattle.error.specs.Told.{Told, tell}
+use Rattle.error.specs.Told.{tell}
 use Rattle.breaker.specs.declared.Reservation.{Reservation}
 use Rattle.breaker.specs.declared.Reservation.the-variants.{Nothing}
 use Rattle.breaker.specs.Record.{settings}
 use Rattle.breaker.specs.Answers.{reservationValues}
 use Rattle.admission.proofs.Admitting.{handed-shed, handed-on, handed-back}
-use Rattle.breaker.proofs.Guard.{tested-sound, sound-refused, sound-done, sound-fields}
+use Rattle.breaker.proofs.Guard.{tested-sound, sound-refused, sound-done}
 use Rattle.steps.proofs.Holding.{holds}
 use Rattle.admission.proofs.limiter.reserve.Statement.{statement}
 use Rattle.admission.proofs.limiter.reserve.Tie as tie

@@ -1,5 +1,5 @@
 -- `breaker::calls::build` meets its contract: what the builder made, in cleared storage. Assumes nothing.
-use mathlib.Core.Path.{_≡_, refl, sym, ap, _∙_}
+use mathlib.Core.Path.{ap, _∙_}
 use borrow.Author.Needs.{needs}
 use Rattle.history.specs.Change.{Left}
 use Rattle.history.proofs.Held.{clear-all}

@@ -1,11 +1,10 @@
 -- `breaker::calls::still_admits` meets its contract: each answer from the tests on its way. Assumes nothing.
-use mathlib.Core.Path.{_≡_, refl, sym, ap, _∙_}
+use mathlib.Core.Path.{_≡_, sym, ap, _∙_}
 use mathlib.Core.Bool.{true}
 use borrow.Author.Needs.{needs}
 use Rattle.breaker.specs.Record.{state, sound}
-use Rattle.breaker.specs.Calls as Calls
 use Rattle.breaker.specs.Rules as Rules
-use Rattle.error.specs.Told.{Told, tell}
+use Rattle.error.specs.Told.{tell}
 use Rattle.breaker.specs.declared.Delay.{Delay}
 use Rattle.breaker.specs.Answers.{delayOf, delayValues}
 use Rattle.breaker.proofs.Queries.{still-same, still-closed, still-open, still-half}

@@ -1,7 +1,7 @@
 -- `breaker::sound::sound_policy` meets its contract: each `return` is what the tests on its way make of the definition. Assumes nothing.
-use mathlib.Core.Path.{_≡_, refl, sym, ap, _∙_}
+use mathlib.Core.Path.{sym, _∙_}
 use borrow.Author.Needs.{needs}
-use borrow.Author.Tests.{eq-eqb, ne-eqb, le-leb, lt-leb, lt-ltb, le-ltb, not-true, not-false}
+use borrow.Author.Tests.{eq-eqb, ne-eqb, le-leb, lt-leb, not-true, not-false}
 use Rattle.breaker.specs.Record.{soundPolicy}
 use Rattle.breaker.proofs.Tests.{consecutive-last, ratio-last, windowed-last}
 use Rattle.breaker.proofs.sound.sound_policy.Statement.{statement}

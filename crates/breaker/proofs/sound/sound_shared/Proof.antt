@@ -1,7 +1,5 @@
 -- `breaker::sound::sound_shared` meets its contract: each `return` is what the tests on its way make of the definition. Assumes nothing.
-use mathlib.Core.Path.{_≡_, refl, sym, ap, _∙_}
-use borrow.Author.Needs.{needs}
-use borrow.Author.Tests.{eq-eqb, ne-eqb, le-leb, lt-leb, lt-ltb, le-ltb, not-true, not-false}
+use borrow.Author.Tests.{eq-eqb, ne-eqb, le-leb, lt-leb, lt-ltb, le-ltb}
 use Rattle.breaker.specs.Record.{soundShared}
 use Rattle.breaker.proofs.Tests.{shared-last}
 use Rattle.breaker.proofs.sound.sound_shared.Statement.{statement}

@@ -1,5 +1,5 @@
 -- `circuit::batch::finish_all` meets its contract: the refusals, and then the calls in turn; demand 3 holds of every sound HalfOpen start. Assumes nothing.
-use mathlib.Core.Path.{_≡_, refl, sym, ap, _∙_}
+use mathlib.Core.Path.{_≡_, sym, _∙_}
 use mathlib.Core.Bool.{true, false}
 use borrow.Author.Needs.{needs}
 use borrow.Author.Tests.{eq-eqb, ne-eqb}

@@ -1,5 +1,4 @@
 -- `circuit::batch::finish_locked` meets its contract: a settle or an abort. Assumes nothing.
-use mathlib.Core.Path.{_≡_, refl, sym, ap, _∙_}
 use borrow.Author.Needs.{needs}
 use Rattle.circuit.proofs.Sequences.{call-settles, call-aborts}
 use Rattle.circuit.proofs.batch.finish_locked.Statement.{statement}

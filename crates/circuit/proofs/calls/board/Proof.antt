@@ -1,11 +1,10 @@
 -- `circuit::calls::board` meets its contract: the count of the Ratio list. Assumes nothing.
-use mathlib.Core.Path.{_≡_, refl, sym, ap, _∙_}
+use mathlib.Core.Path.{_≡_, sym, ap, _∙_}
 use mathlib.Core.Bool.{true}
 use borrow.Author.Needs.{needs}
 use Rattle.breaker.specs.Record.{state, sound}
 use Rattle.breaker.specs.Calls as Calls
-use Rattle.breaker.specs.Rules as Rules
-use Prim.Native.Nat.{ℕ, _≤_}
+use Prim.Native.Nat.{ℕ}
 use mathlib.Core.List.{[], _∷_}
 use native.Mathlib.Omega.{arith}
 use Rattle.error.specs.Told.{tell}

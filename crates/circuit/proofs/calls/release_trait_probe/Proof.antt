@@ -1,14 +1,13 @@
 -- `circuit::calls::release_trait_probe` meets its contract: the step, once the breaker is tested. Assumes nothing.
-use mathlib.Core.Path.{_≡_, refl, sym, ap, _∙_}
+use mathlib.Core.Path.{_≡_, refl, sym, _∙_}
 use mathlib.Core.Bool.{true}
 use borrow.Author.Needs.{needs}
 use Rattle.breaker.specs.Record.{state, sound}
-use Rattle.breaker.specs.Calls as Calls
 use Rattle.breaker.specs.Rules as Rules
-use mathlib.Core.List.{[], _∷_}
+use mathlib.Core.List.{[]}
 use Rattle.error.specs.Told.{tell}
 use Rattle.steps.proofs.Aborting.{released-list}
-use Rattle.breaker.proofs.Guard.{tested-sound, sound-refused, sound-done, sound-fields}
+use Rattle.breaker.proofs.Guard.{tested-sound, sound-refused, sound-fields}
 use Rattle.steps.proofs.Holding.{holds}
 use Rattle.circuit.proofs.calls.release_trait_probe.Statement.{statement}
 use Rattle.circuit.proofs.calls.release_trait_probe.Tie as tie

@@ -1,12 +1,11 @@
 -- `circuit::calls::reset` meets its contract: Closed, once the breaker is tested. Assumes nothing.
-use mathlib.Core.Path.{_≡_, refl, sym, ap, _∙_}
+use mathlib.Core.Path.{_≡_, sym, _∙_}
 use mathlib.Core.Bool.{true}
 use borrow.Author.Needs.{needs}
 use Rattle.breaker.specs.Record.{state, sound}
-use Rattle.breaker.specs.Calls as Calls
 use Rattle.breaker.specs.Rules as Rules
 use Rattle.circuit.proofs.Finishing.{kept-done}
-use Rattle.breaker.proofs.Guard.{tested-sound, sound-refused, sound-done, sound-fields}
+use Rattle.breaker.proofs.Guard.{tested-sound, sound-refused, sound-done}
 use Rattle.steps.proofs.Holding.{holds}
 use Rattle.circuit.proofs.calls.reset.Statement.{statement}
 use Rattle.circuit.proofs.calls.reset.Tie as tie

@@ -1,5 +1,5 @@
 -- `circuit::outcome::close` meets its contract: the list, the counters, then the transition. Assumes nothing.
-use mathlib.Core.Path.{_≡_, refl, sym, ap, _∙_}
+use mathlib.Core.Path.{refl, ap, _∙_}
 use mathlib.Core.List.{[]}
 use borrow.Author.Needs.{needs}
 use Rattle.history.specs.Change.{Left}

@@ -1,7 +1,7 @@
 -- `circuit::outcome::closed_failure` meets its contract: recorded, and then tripped or not. Assumes nothing.
-use mathlib.Core.Path.{_≡_, refl, sym, ap, _∙_}
+use mathlib.Core.Path.{_≡_, sym, ap, _∙_}
 use mathlib.Core.Bool.{true}
-use mathlib.Core.List.{List, [], _∷_}
+use mathlib.Core.List.{[], _∷_}
 use borrow.Author.Needs.{needs}
 use Rattle.error.specs.Told.{tell}
 use Rattle.history.specs.declared.Changed.{Changed}

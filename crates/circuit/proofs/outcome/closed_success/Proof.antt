@@ -1,6 +1,5 @@
 -- `circuit::outcome::closed_success` meets its contract: recording can't be refused. Assumes nothing.
-use mathlib.Core.Path.{_≡_, refl, sym, ap, _∙_}
-use mathlib.Core.List.{List}
+use mathlib.Core.Path.{sym, ap, _∙_}
 use borrow.Author.Needs.{needs}
 use Rattle.history.specs.declared.Changed.{Changed}
 use Rattle.history.specs.Change.{left, told}

@@ -1,5 +1,5 @@
 -- `circuit::outcome::manual_locked` meets its contract: a settle, with a trait probe used up where there is one. Assumes nothing.
-use mathlib.Core.Path.{_≡_, refl, sym, ap, _∙_}
+use mathlib.Core.Path.{_∙_}
 use borrow.Author.Needs.{needs}
 use Rattle.breaker.specs.Record.{state}
 use Rattle.steps.specs.Steps.{Holds}

@@ -1,5 +1,5 @@
 -- `circuit::outcome::record_outcome` meets its contract: each policy by its leaf. Assumes nothing.
-use mathlib.Core.Path.{_≡_, refl, sym, ap, _∙_}
+use mathlib.Core.Path.{sym, ap, _∙_}
 use mathlib.Core.Bool.{Bool}
 use borrow.Author.Needs.{needs}
 use Rattle.trip.specs.Policy.{policyOf}

@@ -1,5 +1,5 @@
 -- `circuit::outcome::settle_locked` meets its contract: by the ticket and the state. Assumes nothing.
-use mathlib.Core.Path.{_≡_, refl, sym, ap, _∙_}
+use mathlib.Core.Path.{sym, ap, _∙_}
 use mathlib.Core.Bool.{Bool}
 use borrow.Author.Needs.{needs}
 use Rattle.breaker.specs.Record.{settings}

@@ -1,15 +1,13 @@
 -- `circuit::permits::permit_cancel` meets its contract: an abort and a notice, once the breaker is tested. Assumes nothing.
-use mathlib.Core.Path.{_≡_, refl, sym, ap, _∙_}
+use mathlib.Core.Path.{_≡_, sym, ap, _∙_}
 use mathlib.Core.Bool.{true}
 use borrow.Author.Needs.{needs}
 use Rattle.breaker.specs.Record.{state, sound}
 use Rattle.breaker.specs.Calls as Calls
-use Rattle.breaker.specs.Rules as Rules
-use Prim.Native.Nat.{ℕ}
 use mathlib.Core.List.{[], _∷_}
 use Rattle.error.specs.Told.{tell}
 use Rattle.breaker.specs.Calls.{After}
-use Rattle.breaker.proofs.Guard.{tested-sound, sound-refused, sound-done, sound-fields}
+use Rattle.breaker.proofs.Guard.{tested-sound, sound-refused, sound-done}
 use Rattle.steps.proofs.Holding.{holds}
 use Rattle.circuit.proofs.permits.permit_cancel.Statement.{statement}
 use Rattle.circuit.proofs.permits.permit_cancel.Tie as tie

@@ -1,5 +1,5 @@
 -- `steps::admit::admit_locked` meets its contract: each answer from the tests on its way. Assumes nothing.
-use mathlib.Core.Path.{_≡_, refl, sym, ap, _∙_}
+use mathlib.Core.Path.{ap, _∙_}
 use borrow.Author.Needs.{needs}
 use Rattle.breaker.specs.declared.Breaker.{Breaker}
 use Rattle.breaker.specs.declared.Delay.{Delay}

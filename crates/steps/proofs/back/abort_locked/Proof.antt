@@ -1,6 +1,6 @@
 -- `steps::back::abort_locked` meets its contract: each answer from the tests on its way. Assumes nothing.
-use Prim.Native.Nat.{ℕ, _-_}
-use mathlib.Core.Path.{_≡_, refl, sym, ap, _∙_}
+use Prim.Native.Nat.{_-_}
+use mathlib.Core.Path.{sym, ap, _∙_}
 use mathlib.Core.Bool.{Bool}
 use native.Mathlib.Nat.{sub-zero}
 use borrow.Author.Needs.{needs}

@@ -1,5 +1,4 @@
 -- `steps::back::release_locked` meets its contract: each answer from the tests on its way. Assumes nothing.
-use mathlib.Core.Path.{_≡_, refl, sym, ap, _∙_}
 use borrow.Author.Needs.{needs}
 use Rattle.steps.proofs.Aborting.{release-off, release-none, release-one}
 use Rattle.steps.proofs.back.release_locked.Statement.{statement}

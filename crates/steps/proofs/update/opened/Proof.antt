@@ -1,6 +1,6 @@
 -- `steps::update::opened` meets its contract: the counters, then the transition. Assumes nothing.
 use Prim.Native.Nat.{ℕ, _+_, _-_, _^_, min}
-use mathlib.Core.Path.{_≡_, refl, sym, ap, _∙_}
+use mathlib.Core.Path.{ap, _∙_}
 use borrow.Author.Needs.{needs}
 use Rattle.breaker.specs.declared.Breaker.{Breaker}
 use Rattle.breaker.specs.Record.{stored}

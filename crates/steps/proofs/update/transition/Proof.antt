@@ -1,5 +1,4 @@
 -- `steps::update::transition` meets its contract: each `return` is what the tests on its way make of the definition. Assumes nothing.
-use mathlib.Core.Path.{_≡_, refl, sym, ap, _∙_}
 use borrow.Author.Needs.{needs}
 use Rattle.steps.proofs.update.transition.Statement.{statement}
 use Rattle.steps.proofs.update.transition.Tie as tie

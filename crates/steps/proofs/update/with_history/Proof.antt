@@ -1,6 +1,4 @@
 -- `steps::update::with_history` meets its contract: each `return` is what the tests on its way make of the definition. Assumes nothing.
-use mathlib.Core.Path.{_≡_, refl, sym, ap, _∙_}
-use borrow.Author.Needs.{needs}
 use Rattle.steps.proofs.update.with_history.Statement.{statement}
 use Rattle.steps.proofs.update.with_history.Tie as tie
 

@@ -1,5 +1,5 @@
 -- `trip::CircuitBreakerBuilder::config` meets its contract: the cooldown, and then the policy. Assumes nothing.
-use mathlib.Core.Path.{_≡_, sym, ap, _∙_}
+use mathlib.Core.Path.{sym, ap, _∙_}
 use Prim.Native.Nat.{ℕ, min}
 use borrow.Author.Needs.{needs}
 use Rattle.trip.specs.Settings.{millisTold}

@@ -1,5 +1,4 @@
 -- `trip::RatioSettings::normalised` meets its contract: each field is its callee's. Assumes nothing.
-use mathlib.Core.Path.{_≡_}
 use borrow.Author.Needs.{needs}
 use Rattle.trip.proofs.RatioSettings.normalised.Statement.{statement}
 use Rattle.trip.proofs.RatioSettings.normalised.Tie as tie

@@ -1,5 +1,4 @@
 -- `trip::Trip::normalised` meets its contract: each policy by its own rule. Assumes nothing.
-use mathlib.Core.Path.{_≡_}
 use borrow.Author.Needs.{needs}
 use Rattle.trip.proofs.Trip.normalised.Statement.{statement}
 use Rattle.trip.proofs.Trip.normalised.Tie as tie

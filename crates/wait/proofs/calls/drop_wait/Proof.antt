@@ -1,8 +1,7 @@
 -- `wait::calls::drop_wait` meets its contract: each `return` is what the tests on its way make of the definition. Assumes nothing.
-use mathlib.Core.Path.{_≡_, refl, sym, ap, _∙_}
-use native.Mathlib.Omega.{arith}
+use mathlib.Core.Path.{sym, ap, _∙_}
 use borrow.Author.Needs.{needs}
-use borrow.Author.Tests.{eq-eqb, ne-eqb, le-leb, lt-leb, lt-ltb, le-ltb, not-true, not-false}
+use borrow.Author.Tests.{eq-eqb, ne-eqb, not-true, not-false}
 use Rattle.wait.specs.Keep.{after}
 use Rattle.wait.specs.Run.{dropped, tellDrop}
 use Rattle.wait.proofs.Steps.{drop-ends}

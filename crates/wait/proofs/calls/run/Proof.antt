@@ -1,6 +1,6 @@
 -- `wait::calls::run` meets its contract: each turn is one step of the rules, and what lies ahead is the rest of them. Assumes nothing.
-use mathlib.Core.Path.{_≡_, refl, sym, ap, _∙_}
-use Prim.Native.Nat.{ℕ, _+_, _-_, _%_, _≤_, _<_}
+use mathlib.Core.Path.{_≡_, sym, ap, _∙_}
+use Prim.Native.Nat.{_+_, _-_, _%_, _≤_}
 use native.Mathlib.Omega.{arith}
 use borrow.Author.Needs.{needs}
 use lib.ListN.{length, drop, length-drop}
@@ -8,7 +8,7 @@ use Rattle.wait.specs.declared.Ran.{Ran}
 use Rattle.wait.specs.declared.Ran.the-variants.{Ends}
 use Rattle.wait.specs.declared.Wait.{Wait}
 use Rattle.wait.specs.Run.{running, steps, runs, tellRun}
-use Rattle.wait.proofs.Walks.{counting, ahead, passes-bounds, run-storage, run-starts, a-turn, next-turn, next-whole, next-less, at-limit, at-end, run-refused, run-goes, run-ends}
+use Rattle.wait.proofs.Walks.{counting, ahead, passes-bounds, run-storage, run-starts, a-turn, next-whole, next-less, at-limit, at-end, run-refused, run-goes, run-ends}
 use Rattle.wait.proofs.calls.run.Statement.{statement}
 use Rattle.wait.proofs.calls.run.Tie as tie
 

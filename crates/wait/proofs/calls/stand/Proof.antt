@@ -1,8 +1,6 @@
 -- `wait::calls::stand` meets its contract: each `return` is what the tests on its way make of the definition. Assumes nothing.
-use mathlib.Core.Path.{_≡_, refl, sym, ap, _∙_}
-use native.Mathlib.Omega.{arith}
 use borrow.Author.Needs.{needs}
-use borrow.Author.Tests.{eq-eqb, ne-eqb, le-leb, lt-leb, lt-ltb, le-ltb, not-true, not-false}
+use borrow.Author.Tests.{not-true, not-false}
 use Rattle.wait.specs.Run.{standing}
 use Rattle.wait.proofs.calls.stand.Statement.{statement}
 use Rattle.wait.proofs.calls.stand.Tie as tie

@@ -1,5 +1,5 @@
 -- `wait::calls::turn` meets its contract: the tests, then the step. Assumes nothing.
-use mathlib.Core.Path.{_≡_, refl, sym, ap, _∙_}
+use mathlib.Core.Path.{sym, ap, _∙_}
 use borrow.Author.Needs.{needs}
 use Rattle.wait.specs.Keep.{after, tellTurn}
 use Rattle.wait.specs.declared.Move.the-variants.{Goes, Ends}

@@ -1,5 +1,5 @@
 -- `waiting::calls::turn` meets its contract: the tests, the wait's own turn, and what its end does. Assumes nothing.
-use mathlib.Core.Path.{_≡_, sym, ap, _∙_}
+use mathlib.Core.Path.{_≡_, sym, _∙_}
 use mathlib.Core.Bool.{true}
 use borrow.Author.Needs.{needs}
 use Rattle.breaker.specs.Record.{sound}
