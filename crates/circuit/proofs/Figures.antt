@@ -13,7 +13,7 @@ use Rattle.trip.specs.declared.Config.{Config}
 use Rattle.trip.specs.Policy.{policyOf, boardFigure}
 use Rattle.breaker.specs.Record.{State, settings}
 use Rattle.breaker.specs.Calls.{figure, board}
-use Rattle.circuit.proofs.Finishing.{is-ratio}
+use Rattle.steps.proofs.Finishing.{is-ratio}
 
 module _ (c : Config) (st : State) where
   pub board-none : (c .kind ≡ 2 → ⊥) → tell 0 (0 ∷ []) ≡ board (settings c) st

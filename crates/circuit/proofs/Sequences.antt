@@ -4,6 +4,7 @@ use mathlib.Core.Bool.{Bool, true, false}
 use mathlib.Core.List.{List, [], _∷_, _++_, append-nil}
 use Prim.Native.Nat.{ℕ, zero, suc, _+_, _≤_, _<_}
 use native.Mathlib.Numerals.{add-one}
+use native.Mathlib.Omega.{arith}
 use lib.ListN.{length, drop, set, getD, length-append, drop-of-length-le}
 use lib.Seq.{drop-cons, append-snoc, set-at}
 use Rattle.error.specs.Told.{Told, refused, nothing}
@@ -14,8 +15,8 @@ use Rattle.trip.specs.declared.Config.{Config}
 use Rattle.breaker.specs.declared.Ticket.{Ticket}
 use Rattle.breaker.specs.declared.Breaker.{Breaker}
 use Rattle.breaker.specs.declared.Tested.the-variants.{Sound, Refused}
-use Rattle.breaker.specs.Record.{State, settings, state, stored, sound}
-use Rattle.breaker.specs.Rules.{done, finish, settling, aborting}
+use Rattle.breaker.specs.Record.{State, Closed, settings, state, stored, sound}
+use Rattle.breaker.specs.Rules.{done, inClosed, finish, settling, aborting}
 use Rattle.breaker.specs.Calls.{After, after, kept, guarded}
 use Rattle.breaker.specs.Orders.{Ran, run, inTurn}
 use Rattle.breaker.specs.Batch.{Slices, callBy, callAt, callsTo, calls, batch, numbers, alike, finishedAll}
@@ -24,12 +25,17 @@ use Rattle.breaker.proofs.Guard.{guarded-refused, guarded-done}
 use Rattle.breaker.proofs.Keeps.{sound-run, sound-state}
 use Rattle.breaker.proofs.Orders.{run-snoc}
 use Rattle.steps.proofs.Holding.{holds}
+use Rattle.steps.proofs.Settling.{settle-closed}
 
 -- ---- one call
 module _ (c : Config) (st : State) (reading : ℕ) (t : Ticket) (mark : Bool) (s : List ℕ) (b : Breaker) (h : Holds c st b s) where
   pub call-settles : (settles : Bool) → settles ≡ true → (x : After) → x ≡ kept c (finish (settings c) reading (settling t mark) st)
       → x ≡ kept c (finish (settings c) reading (callBy t settles mark) st)
   call-settles settles e x q = rw e q
+
+  pub call-closed : (settles : Bool) → settles ≡ true → t .generation ≡ b .shared .generation → b .shared .state ≡ Closed → (x : After)
+      → x ≡ kept c (inClosed (settings c) reading (settling t mark) st) → x ≡ kept c (finish (settings c) reading (callBy t settles mark) st)
+  call-closed settles e g k x q = call-settles settles e x (q ∙ settle-closed b s c st reading t mark h g (λ z. omega (arith, k, z)) k)
 
   pub call-aborts : (settles : Bool) → settles ≡ false → (next : Breaker)
       → kept c (finish (settings c) reading (aborting t mark) st) ≡ after nothing next (padded (st .list))

@@ -2,15 +2,12 @@
 ghost use mathlib.Core.Path.{_≡_};
 ghost use mathlib.Core.Bool.{true};
 ghost use lib.ListN.{length};
-ghost use Rattle.trip.specs.declared.Config.{Config};
-ghost use Rattle.breaker.specs.Record.{State, HalfOpen, settings, sound};
+ghost use Rattle.breaker.specs.Record.{HalfOpen, sound};
 ghost use Rattle.breaker.specs.Answers.{finishedTold};
-ghost use Rattle.breaker.specs.Rules.{finish, done};
+ghost use Rattle.breaker.specs.Rules.{done};
 ghost use Rattle.breaker.specs.Calls.{after, kept};
 ghost use Rattle.breaker.specs.Orders.{FinishingOrders, inTurn};
-ghost use Rattle.breaker.specs.Batch.{batch, callBy, slices, calls, numbers, finishedAll};
-ghost use Rattle.steps.specs.Steps.{Holds};
-use crate::outcome::settle_locked;
+ghost use Rattle.breaker.specs.Batch.{batch, slices, calls, numbers, finishedAll};
 use breaker::Breaker;
 use breaker::Finished;
 use breaker::Settled;
@@ -18,37 +15,12 @@ use breaker::Tested;
 use breaker::Ticket;
 use breaker::test;
 use error::Refusal;
+use steps::Recorded;
 use steps::abort_locked;
-
-fn number_of(answer: Finished) -> u64
-    ensures { λ r. ⌜ r ≡ finishedTold answer .number ⌝ }
-{
-    match answer {
-        Finished::Done => 0,
-        Finished::Refused(r) => error::number(r) as u64,
-    }
-}
-
-// One call of the sequence.
-fn finish_locked(
-    b: Breaker,
-    list: &mut [u64],
-    now_ms: u64,
-    t: Ticket,
-    settles: bool,
-    mark: bool,
-) -> Settled
-    requires { ⌜ sound b (now list) ≡ true ⌝ }
-    ensures { λ r. ⌜ ((c : Config) (st : State) → Holds c st b (now (list .entry)) → after (finishedTold (r .answer)) (r .breaker) (now (list .exit)) ≡ kept c (finish (settings c) «now_ms» (callBy t settles mark) st)) ⌝ }
-{
-    if settles {
-        return settle_locked(b, list, now_ms, t, mark);
-    }
-    Settled {
-        answer: Finished::Done,
-        breaker: abort_locked(b, t, mark),
-    }
-}
+use steps::opened;
+use steps::settle_closed;
+use steps::settle_unclosed;
+use steps::with_history;
 
 // The calls in turn: each gets what the one before it left.
 fn finish_each(
@@ -72,11 +44,30 @@ fn finish_each(
             generation: generations[i],
             probe: probes[i],
         };
-        let next = finish_locked(b, list, now_ms, t, settles[i], marks[i]);
-        let answer = next.answer;
-        let kept = next.breaker;
-        answers[i] = number_of(answer);
-        b = kept;
+        let mark = marks[i];
+        if !settles[i] {
+            b = abort_locked(b, t, mark);
+            answers[i] = 0;
+        } else if b.shared.state != 0 {
+            b = settle_unclosed(b, list, now_ms, t, mark);
+            answers[i] = 0;
+        } else if t.generation != b.shared.generation {
+            answers[i] = 0;
+        } else {
+            match settle_closed(b, list, now_ms, mark) {
+                Recorded::Refused(r) => {
+                    answers[i] = error::number(r) as u64;
+                }
+                Recorded::Counted(run, len) => {
+                    b = with_history(b, run, len);
+                    answers[i] = 0;
+                }
+                Recorded::Tripped(run, len) => {
+                    b = opened(with_history(b, run, len), now_ms);
+                    answers[i] = 0;
+                }
+            }
+        }
         i += 1;
     }
     b

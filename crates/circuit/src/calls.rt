@@ -5,9 +5,6 @@ ghost use Rattle.breaker.specs.Answers.{finishedTold, countedTold};
 ghost use Rattle.breaker.specs.Calls as Calls;
 ghost use Rattle.breaker.specs.Calls.{after, onSound, asked};
 ghost use Rattle.breaker.specs.Rules as Rules;
-use crate::outcome::close;
-use crate::outcome::manual_locked;
-use crate::outcome::settle_locked;
 use breaker::Breaker;
 use breaker::Counted;
 use breaker::Finished;
@@ -16,7 +13,10 @@ use breaker::Tested;
 use breaker::Ticket;
 use breaker::test;
 use steps::abort_locked;
+use steps::close;
+use steps::manual_locked;
 use steps::release_locked;
+use steps::settle_locked;
 
 // Reports the outcome of a call with its ticket.
 // Ruled out: one that ignores its ticket; a success that keeps the run when it closes.

@@ -2,7 +2,6 @@
 // calls, and the board figure (circuit.rs of the Rust).
 mod batch;
 mod calls;
-mod outcome;
 mod permits;
 
 pub use batch::finish_all;

@@ -10,9 +10,9 @@ use Rattle.trip.specs.declared.Config.{Config}
 use Rattle.breaker.specs.declared.Breaker.{Breaker}
 use Rattle.breaker.specs.Record.{State, settings, state, sound}
 use Rattle.breaker.specs.Rules.{settling, aborting}
-use Rattle.breaker.specs.Calls.{after, onSound}
+use Rattle.breaker.specs.Calls.{after, kept, onSound}
 use Rattle.breaker.proofs.Keeps.{Keeps, sound-finish, sound-admission, sound-reset}
-use Rattle.breaker.proofs.Guard.{sound-called}
+use Rattle.breaker.proofs.Guard.{sound-called, sound-done}
 use Rattle.lines.specs.declared.Call.{Call}
 use Rattle.lines.specs.declared.Call.the-variants.{Admit, Success, Failure, Abort, Reset}
 use Rattle.lines.specs.Print.{printLine}
@@ -29,10 +29,15 @@ refused-line Unsound st = refl
 refused-line Full st = refl
 refused-line Turn st = refl
 
--- what an entry point left, told on as the step's
-pub step-of : (call : Call) (b : Breaker) (s s' : List ℕ) (t : Told) (b' : Breaker) (r : Stepped) → after t b' s' ≡ onSound (called call) b s
+-- what a call left, told on as the step's
+step-of : (call : Call) (b : Breaker) (s s' : List ℕ) (t : Told) (b' : Breaker) (r : Stepped) → after t b' s' ≡ onSound (called call) b s
     → r .breaker ≡ b' → Says (r .answer) t → StepsTo call b s r s'
 step-of call b s s' t b' r e k f = rw (← e) (k, refl, f)
+
+-- what a step left of a sound breaker, told on as the call's
+pub step-kept : (call : Call) (b : Breaker) (s s' : List ℕ) → sound b s ≡ true → (t : Told) (b' : Breaker) (r : Stepped)
+    → after t b' s' ≡ kept (b .config) (called call (settings (b .config)) (state b s)) → r .breaker ≡ b' → Says (r .answer) t → StepsTo call b s r s'
+step-kept call b s s' ok t b' r e k f = step-of call b s s' t b' r (e ∙ sound-done (called call) b s ok) k f
 
 -- every call keeps a breaker sound
 keeps : (call : Call) → Keeps (called call)

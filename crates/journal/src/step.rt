@@ -1,18 +1,24 @@
 // One call of the journal, made on the breaker.
 ghost use mathlib.Core.Path.{_≡_};
 ghost use Rattle.error.specs.Told.{refused};
+ghost use mathlib.Core.Bool.{true};
+ghost use Rattle.breaker.specs.Record.{sound};
 ghost use Rattle.breaker.specs.Answers.{admissionTold, finishedTold};
 ghost use Rattle.journal.specs.Steps.{Says, StepsTo};
 use crate::Answer;
 use crate::Stepped;
 use breaker::Admission;
-use breaker::Admitted;
 use breaker::Breaker;
 use breaker::Finished;
 use breaker::Settled;
 use breaker::Ticket;
 use error::Refusal;
 use lines::Call;
+use steps::Entry;
+use steps::abort_locked;
+use steps::admit_as_locked;
+use steps::close;
+use steps::settle_locked;
 
 // `E` and the number.
 fn refusal(why: Refusal) -> Answer
@@ -62,17 +68,6 @@ fn finish(told: Finished) -> Answer
     }
 }
 
-fn admitted(call: Admitted) -> Stepped
-    ensures { λ r. ⌜ (r .breaker ≡ call .breaker) × Says (r .answer) (admissionTold (call .answer)) ⌝ }
-{
-    let told = call.answer;
-    let breaker = call.breaker;
-    Stepped {
-        answer: admission(told),
-        breaker,
-    }
-}
-
 fn finished(call: Settled) -> Stepped
     ensures { λ r. ⌜ (r .breaker ≡ call .breaker) × Says (r .answer) (finishedTold (call .answer)) ⌝ }
 {
@@ -84,32 +79,43 @@ fn finished(call: Settled) -> Stepped
     }
 }
 
-// Makes the call. An abort is the plain one.
+// Makes the call, by its step: a breaker that is sound need not be tested. An abort is the plain one.
 pub(crate) fn step(breaker: Breaker, list: &mut [u64], call: Call) -> Stepped
+    requires { ⌜ sound breaker (now list) ≡ true ⌝ }
     ensures { λ r. ⌜ StepsTo call breaker (now (list .entry)) r (now (list .exit)) ⌝ }
 {
     match call {
-        Call::Admit(reading) => admitted(admission::admit_as(breaker, list, reading, false)),
-        Call::Success(reading, generation, probe) => finished(circuit::settle(
+        Call::Admit(reading) => match admit_as_locked(breaker, reading, false) {
+            Entry::Shed(d) => Stepped {
+                answer: admission(Admission::Shed(d)),
+                breaker,
+            },
+            Entry::Granted(t, next) => Stepped {
+                answer: admission(Admission::Granted(t)),
+                breaker: next,
+            },
+        },
+        Call::Success(reading, generation, probe) => finished(settle_locked(
             breaker,
             list,
             reading,
             Ticket { generation, probe },
             true,
         )),
-        Call::Failure(reading, generation, probe) => finished(circuit::settle(
+        Call::Failure(reading, generation, probe) => finished(settle_locked(
             breaker,
             list,
             reading,
             Ticket { generation, probe },
             false,
         )),
-        Call::Abort(_, generation, probe) => finished(circuit::abort_as(
-            breaker,
-            list,
-            Ticket { generation, probe },
-            false,
-        )),
-        Call::Reset(_) => finished(circuit::reset(breaker, list)),
+        Call::Abort(_, generation, probe) => Stepped {
+            answer: finish(Finished::Done),
+            breaker: abort_locked(breaker, Ticket { generation, probe }, false),
+        },
+        Call::Reset(_) => Stepped {
+            answer: finish(Finished::Done),
+            breaker: close(breaker, list),
+        },
     }
 }

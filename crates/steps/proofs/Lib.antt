@@ -2,3 +2,6 @@
 pub mod Holding
 pub mod Entering
 pub mod Aborting
+pub mod Finishing
+pub mod Outcomes
+pub mod Settling

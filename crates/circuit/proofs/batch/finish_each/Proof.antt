@@ -1,13 +1,20 @@
 -- `circuit::batch::finish_each` meets its contract. The loop's invariant: record and places hold the state after the calls so far, and their answers stand in front.
 -- Assumes nothing.
-use Prim.Native.Nat.{_≤_, _-_}
-use mathlib.Core.Path.{_≡_, refl, _∙_}
+use Prim.Native.Nat.{_+_, _≤_, _-_}
+use mathlib.Core.Path.{_≡_, refl, ap, _∙_}
+use mathlib.Core.Bool.{false}
+use mathlib.Core.Logic.{⊎-elim}
 use native.Mathlib.Omega.{arith}
 use borrow.Author.Needs.{needs}
-use lib.ListN.{length, length-set}
-use Rattle.breaker.specs.Answers.{finishedTold}
-use Rattle.breaker.specs.Batch.{slices}
-use Rattle.circuit.proofs.Sequences.{soFar, Turn, turn-first, turn-sound, turn-more, turn-last}
+use borrow.Author.Tests.{not-true, not-false}
+use lib.ListN.{length, length-set, getD}
+use Rattle.error.specs.Told.{nothing, refused}
+use Rattle.breaker.specs.declared.Ticket.{Ticket}
+use Rattle.breaker.specs.declared.Breaker.{Breaker}
+use Rattle.breaker.specs.Calls.{after}
+use Rattle.steps.proofs.Settling.{settle-stale}
+use Rattle.breaker.specs.Batch.{Slices, slices}
+use Rattle.circuit.proofs.Sequences.{soFar, Turn, call-settles, call-closed, call-aborts, turn-first, turn-sound, turn-more, turn-last}
 use Rattle.circuit.proofs.batch.finish_each.Statement.{statement}
 use Rattle.circuit.proofs.batch.finish_each.Tie as tie
 
@@ -24,49 +31,160 @@ abbrev μ-loop : tie.MeasureT-loop
 loop-holds : tie.Need-loop-holds Inv-loop μ-loop
 loop-holds c = (search needs, turn-first (slices (c .before .before .before .before .before .before .args .generations .now) (c .before .before .before .before .before .before .args .probes .now) (c .before .before .before .before .before .before .args .settles .now) (c .before .before .before .before .before .before .args .marks .now)) (c .before .before .before .before .before .before .args .now-ms) (c .before .before .before .before .before .before .args .start) (c .before .before .before .before .before .before .args .list .now) (c .before .before .before .before .before .before .pre .0) (c .before .before .before .before .before .before .args .answers .now), refl, refl)
 
+mul-t18 : tie.Need-mul-t18 Inv-loop μ-loop
+mul-t18 c = search needs
+
+shared-slice-read-t21 : tie.Need-shared-slice-read-t21 Inv-loop μ-loop
+shared-slice-read-t21 c = search needs
+
+shared-slice-read-mark : tie.Need-shared-slice-read-mark Inv-loop μ-loop
+shared-slice-read-mark c = search needs
+
+shared-slice-read-mark-2 : tie.Need-shared-slice-read-mark-2 Inv-loop μ-loop
+shared-slice-read-mark-2 c = search needs
+
+shared-slice-read-if1 : tie.Need-shared-slice-read-if1 Inv-loop μ-loop
+shared-slice-read-if1 c = search needs
+
+abort-locked-requires : tie.Need-abort-locked-requires Inv-loop μ-loop
+abort-locked-requires c κs = search needs
+
 mul-answers : tie.Need-mul-answers Inv-loop μ-loop
-mul-answers c = search needs
-
-shared-slice-read-answers : tie.Need-shared-slice-read-answers Inv-loop μ-loop
-shared-slice-read-answers c = search needs
-
-shared-slice-read-finish-locked : tie.Need-shared-slice-read-finish-locked Inv-loop μ-loop
-shared-slice-read-finish-locked c = search needs
-
-shared-slice-read-finish-locked-2 : tie.Need-shared-slice-read-finish-locked-2 Inv-loop μ-loop
-shared-slice-read-finish-locked-2 c = search needs
-
-shared-slice-read-finish-locked-3 : tie.Need-shared-slice-read-finish-locked-3 Inv-loop μ-loop
-shared-slice-read-finish-locked-3 c = search needs
-
-finish-locked-requires : tie.Need-finish-locked-requires Inv-loop μ-loop
-finish-locked-requires c κs = turn-sound (slices (c .before .before .before .before .before .before .before .before .before .before .before .before .before .args .generations .now) (c .before .before .before .before .before .before .before .before .before .before .before .before .before .args .probes .now) (c .before .before .before .before .before .before .before .before .before .before .before .before .before .args .settles .now) (c .before .before .before .before .before .before .before .before .before .before .before .before .before .args .marks .now)) (c .before .before .before .before .before .before .before .before .before .before .before .before .before .args .now-ms) (c .before .before .before .before .before .before .before .before .before .before .before .before .before .args .start) (c .before .before .before .before .before .before .before .before .before .before .before .before .before .args .list .now) (c .before .before .before .before .before .before .before .before .before .before .before .before .before .pre .0) (c .before .before .before .before .before .before .loop .inv .1)
-
-number-of-requires : tie.Need-number-of-requires Inv-loop μ-loop
-number-of-requires c κs = search needs
-
-mul-answers-2 : tie.Need-mul-answers-2 Inv-loop μ-loop
-mul-answers-2 c = omega (arith, c .before .before .before .before .before .before .before .before .before .before .loop-test .taken, c .before .before .before .before .before .before .before .before .before .before .before .before .before .before .before .before .before .before .good .1 .1 .1 .0)
+mul-answers c = omega (arith, c .before .before .before .before .before .before .loop-test .taken, c .before .before .before .before .before .before .before .before .before .before .before .before .before .before .good .1 .1 .1 .0)
 
 slice-write-answers : tie.Need-slice-write-answers Inv-loop μ-loop
 slice-write-answers c = search needs
 
+settle-unclosed-requires : tie.Need-settle-unclosed-requires Inv-loop μ-loop
+settle-unclosed-requires c κs = search needs
+
+mul-answers-2 : tie.Need-mul-answers-2 Inv-loop μ-loop
+mul-answers-2 c = omega (arith, c .before .before .before .before .before .before .before .before .before .before .before .loop-test .taken, c .before .before .before .before .before .before .before .before .before .before .before .before .before .before .before .before .before .before .before .good .1 .1 .1 .0)
+
+slice-write-answers-2 : tie.Need-slice-write-answers-2 Inv-loop μ-loop
+slice-write-answers-2 c = omega (arith, c .before .before .before .before .before .before .before .before .before .before .before .loop-test .taken, c .before .before .before .before .before .before .before .before .before .before .before .before .loop .inv .3, c .before .before .before .before .before .before .before .before .before .before .before .before .before .before .before .before .before .before .before .pre .1)
+
+mul-answers-3 : tie.Need-mul-answers-3 Inv-loop μ-loop
+mul-answers-3 c = omega (arith, c .before .before .before .before .before .before .before .before .before .before .loop-test .taken, c .before .before .before .before .before .before .before .before .before .before .before .before .before .before .before .before .before .before .good .1 .1 .1 .0)
+
+slice-write-answers-3 : tie.Need-slice-write-answers-3 Inv-loop μ-loop
+slice-write-answers-3 c = omega (arith, c .before .before .before .before .before .before .before .before .before .before .loop-test .taken, c .before .before .before .before .before .before .before .before .before .before .before .loop .inv .3, c .before .before .before .before .before .before .before .before .before .before .before .before .before .before .before .before .before .before .pre .1)
+
+settle-closed-requires : tie.Need-settle-closed-requires Inv-loop μ-loop
+settle-closed-requires c κs = search needs
+
+enum-known-r : tie.Need-enum-known-r Inv-loop μ-loop
+enum-known-r c = search needs
+
+number-requires : tie.Need-number-requires Inv-loop μ-loop
+number-requires c κs = search needs
+
+cast-answers : tie.Need-cast-answers Inv-loop μ-loop
+cast-answers c = search needs
+
+mul-answers-4 : tie.Need-mul-answers-4 Inv-loop μ-loop
+mul-answers-4 c = omega (arith, c .before .before .before .before .before .before .before .before .before .before .before .before .before .before .before .before .before .before .loop-test .taken, c .before .before .before .before .before .before .before .before .before .before .before .before .before .before .before .before .before .before .before .before .before .before .before .before .before .before .good .1 .1 .1 .0)
+
+slice-write-answers-4 : tie.Need-slice-write-answers-4 Inv-loop μ-loop
+slice-write-answers-4 c = omega (arith, c .before .before .before .before .before .before .before .before .before .before .before .before .before .before .before .before .before .before .loop-test .taken, c .before .before .before .before .before .before .before .before .before .before .before .before .before .before .before .before .before .before .before .loop .inv .3, c .before .before .before .before .before .before .before .before .before .before .before .before .before .before .before .before .before .before .before .before .before .before .before .before .before .before .pre .1)
+
+enum-known-run : tie.Need-enum-known-run Inv-loop μ-loop
+enum-known-run c = search needs
+
+with-history-requires : tie.Need-with-history-requires Inv-loop μ-loop
+with-history-requires c κs = search needs
+
+mul-answers-5 : tie.Need-mul-answers-5 Inv-loop μ-loop
+mul-answers-5 c = omega (arith, c .before .before .before .before .before .before .before .before .before .before .before .before .before .before .before .before .before .before .loop-test .taken, c .before .before .before .before .before .before .before .before .before .before .before .before .before .before .before .before .before .before .before .before .before .before .before .before .before .before .good .1 .1 .1 .0)
+
+slice-write-answers-5 : tie.Need-slice-write-answers-5 Inv-loop μ-loop
+slice-write-answers-5 c = omega (arith, c .before .before .before .before .before .before .before .before .before .before .before .before .before .before .before .before .before .before .loop-test .taken, c .before .before .before .before .before .before .before .before .before .before .before .before .before .before .before .before .before .before .before .loop .inv .3, c .before .before .before .before .before .before .before .before .before .before .before .before .before .before .before .before .before .before .before .before .before .before .before .before .before .before .pre .1)
+
+enum-known-run-2 : tie.Need-enum-known-run-2 Inv-loop μ-loop
+enum-known-run-2 c = search needs
+
+with-history-requires-2 : tie.Need-with-history-requires-2 Inv-loop μ-loop
+with-history-requires-2 c κs = search needs
+
+opened-requires : tie.Need-opened-requires Inv-loop μ-loop
+opened-requires c κs = search needs
+
+mul-answers-6 : tie.Need-mul-answers-6 Inv-loop μ-loop
+mul-answers-6 c = omega (arith, c .before .before .before .before .before .before .before .before .before .before .before .before .before .before .before .before .before .before .before .loop-test .taken, c .before .before .before .before .before .before .before .before .before .before .before .before .before .before .before .before .before .before .before .before .before .before .before .before .before .before .before .good .1 .1 .1 .0)
+
+slice-write-answers-6 : tie.Need-slice-write-answers-6 Inv-loop μ-loop
+slice-write-answers-6 c = omega (arith, c .before .before .before .before .before .before .before .before .before .before .before .before .before .before .before .before .before .before .before .loop-test .taken, c .before .before .before .before .before .before .before .before .before .before .before .before .before .before .before .before .before .before .before .before .loop .inv .3, c .before .before .before .before .before .before .before .before .before .before .before .before .before .before .before .before .before .before .before .before .before .before .before .before .before .before .before .pre .1)
+
+-- the call was made, by one of six ways
+abbrev xs : tie.Joined1 Inv-loop μ-loop → Slices
+xs c = slices (c .before .before .before .before .before .before .before .before .before .before .before .before .before .args .generations .now) (c .before .before .before .before .before .before .before .before .before .before .before .before .before .args .probes .now) (c .before .before .before .before .before .before .before .before .before .before .before .before .before .args .settles .now) (c .before .before .before .before .before .before .before .before .before .before .before .before .before .args .marks .now)
+
+turned : (c : tie.Joined1 Inv-loop μ-loop)
+    → Turn (xs c) (c .before .before .before .before .before .before .before .before .before .before .before .before .before .args .now-ms) (c .before .before .before .before .before .before .before .before .before .before .before .before .before .args .start) (c .before .before .before .before .before .before .before .before .before .before .before .before .before .args .list .now) (c .before .before .before .before .before .before .before .before .before .before .before .before .before .args .answers .now) (c .if1 .b) (c .if1 .list) (c .if1 .answers) (c .before .before .before .before .before .before .loop .i + 1)
+    × (length (c .if1 .list) ≡ length (c .before .before .before .before .before .before .before .before .before .before .before .before .before .args .list .now)) × (length (c .if1 .answers) ≡ length (c .before .before .before .before .before .before .before .before .before .before .before .before .before .args .answers .now))
+turned c =
+    let a = c .before .before .before .before .before .before .before .before .before .before .before .before .before .args in
+    let l = c .before .before .before .before .before .before .loop in
+    let x = xs c in
+    let cfg = a .start .config in
+    let st = soFar x (a .now-ms) (a .start) (a .list .now) (l .i) .after in
+    let h = l .inv .1 .held in
+    let ok = turn-sound x (a .now-ms) (a .start) (a .list .now) (c .before .before .before .before .before .before .before .before .before .before .before .before .before .pre .0) (l .inv .1) in
+    let t : Ticket = record { generation = getD (x .generations) (l .i) 0; probe = getD (x .probes) (l .i) false } in
+    let s = getD (x .settles) (l .i) false in
+    let m = getD (x .marks) (l .i) false in
+    let more = turn-more x (a .now-ms) (a .start) (a .list .now) (l .inv .1) (omega (arith, c .before .before .before .before .before .before .before .before .before .before .before .before .before .pre .1, c .before .before .before .before .before .loop-test .taken)) in
+    let settled = call-settles cfg st (a .now-ms) t m (l .list) (l .b) h s in
+    let shut = call-closed cfg st (a .now-ms) t m (l .list) (l .b) h s in
+    ⊎-elim
+    (λ w. rw (w .2, w .3, w .4) (
+      more nothing (w .1 .result) (l .list) 0 (call-aborts cfg st (a .now-ms) t m (l .list) (l .b) h s (not-true s (w .0 .taken)) (w .1 .result) (w .1 .ensures cfg st (a .now-ms) (h .0))) refl,
+      l .inv .2,
+      simp length-set (l .inv .3),
+    ))
+    (⊎-elim
+    (λ w. rw (w .7, w .8, w .9) (
+      more nothing (w .4 .result) (w .4 .last .1 .0) 0 (settled (not-false s (w .0 .left)) _ (w .4 .ensures ok (w .2 .taken) cfg st h)) refl,
+      w .4 .kept .1 .0 ∙ l .inv .2,
+      simp length-set (l .inv .3),
+    ))
+    (⊎-elim
+    (λ w. rw (w .6, w .7, w .8) (
+      more nothing (l .b) (l .list) 0 (settled (not-false s (w .0 .left)) _ (settle-stale (l .b) (l .list) cfg st (a .now-ms) t m h (w .5 .taken))) refl,
+      l .inv .2,
+      simp length-set (l .inv .3),
+    ))
+    (⊎-elim
+    (λ w. let k = rw (w .11 .given .1) at (w .7 .ensures ok cfg st h t) in
+    rw (w .14, w .15, w .16) (
+      more (refused (w .11 .given .0 .0)) (l .b) (w .7 .last .1 .0) (w .13 .result) (shut (not-false s (w .0 .left)) (w .5 .left) (w .2 .left) _ (ap (λ (y : Breaker). after (refused (w .11 .given .0 .0)) y (w .7 .last .1 .0)) (h .0) ∙ k)) (w .13 .ensures),
+      w .7 .kept .1 .0 ∙ l .inv .2,
+      simp length-set (l .inv .3),
+    ))
+    (⊎-elim
+    (λ w. let k = rw (w .11 .given .1) at (w .7 .ensures ok cfg st h t) in
+    rw (w .14, w .15, w .16) (
+      more nothing (w .13 .result) (w .7 .last .1 .0) 0 (shut (not-false s (w .0 .left)) (w .5 .left) (w .2 .left) _ (k (w .13 .result) (λ ys n. w .13 .ensures cfg st ys (h .0) n))) refl,
+      w .7 .kept .1 .0 ∙ l .inv .2,
+      simp length-set (l .inv .3),
+    ))
+    (λ w. let k = rw (w .11 .given .1) at (w .7 .ensures ok cfg st h t) in
+    rw (w .15, w .16, w .17) (
+      more nothing (w .14 .result) (w .7 .last .1 .0) 0 (shut (not-false s (w .0 .left)) (w .5 .left) (w .2 .left) _ (k (w .13 .result) (w .14 .result) (λ ys n. w .13 .ensures cfg st ys (h .0) n) (λ st′ e. w .14 .ensures cfg st′ e))) refl,
+      w .7 .kept .1 .0 ∙ l .inv .2,
+      simp length-set (l .inv .3),
+    ))
+    ))))
+    (c .if1 .came)
+
 add-i : tie.Need-add-i Inv-loop μ-loop
-add-i c = omega (arith, c .before .before .before .before .before .before .before .before .before .before .loop-test .taken, c .before .before .before .before .before .before .before .before .before .before .before .before .before .before .before .before .before .before .good .1 .1 .1 .0)
+add-i c = omega (arith, c .before .before .before .before .before .loop-test .taken, c .before .before .before .before .before .before .before .before .before .before .before .before .before .good .1 .1 .1 .0)
 
 loop-less : tie.Need-loop-less Inv-loop μ-loop
 loop-less c = search needs
 
 loop-again : tie.Need-loop-again Inv-loop μ-loop
-loop-again c = (
-  search needs,
-  turn-more (slices (c .before .before .before .before .before .before .before .before .before .before .before .before .before .before .before .before .before .before .args .generations .now) (c .before .before .before .before .before .before .before .before .before .before .before .before .before .before .before .before .before .before .args .probes .now) (c .before .before .before .before .before .before .before .before .before .before .before .before .before .before .before .before .before .before .args .settles .now) (c .before .before .before .before .before .before .before .before .before .before .before .before .before .before .before .before .before .before .args .marks .now)) (c .before .before .before .before .before .before .before .before .before .before .before .before .before .before .before .before .before .before .args .now-ms) (c .before .before .before .before .before .before .before .before .before .before .before .before .before .before .before .before .before .before .args .start) (c .before .before .before .before .before .before .before .before .before .before .before .before .before .before .before .before .before .before .args .list .now) (c .before .before .before .before .before .before .before .before .before .before .before .loop .inv .1) (omega (arith, c .before .before .before .before .before .before .before .before .before .before .before .before .before .before .before .before .before .before .pre .1, c .before .before .before .before .before .before .before .before .before .before .loop-test .taken))
-      (finishedTold (c .before .before .before .before .finish-locked .result .answer)) (c .before .before .before .before .finish-locked .result .breaker) (c .before .before .before .before .finish-locked .last .1 .0) (c .number-of .result)
-      (c .before .before .before .before .finish-locked .ensures (c .before .before .before .before .before .before .before .before .before .before .before .before .before .before .before .before .before .before .args .start .config) (soFar (slices (c .before .before .before .before .before .before .before .before .before .before .before .before .before .before .before .before .before .before .args .generations .now) (c .before .before .before .before .before .before .before .before .before .before .before .before .before .before .before .before .before .before .args .probes .now) (c .before .before .before .before .before .before .before .before .before .before .before .before .before .before .before .before .before .before .args .settles .now) (c .before .before .before .before .before .before .before .before .before .before .before .before .before .before .before .before .before .before .args .marks .now)) (c .before .before .before .before .before .before .before .before .before .before .before .before .before .before .before .before .before .before .args .now-ms) (c .before .before .before .before .before .before .before .before .before .before .before .before .before .before .before .before .before .before .args .start) (c .before .before .before .before .before .before .before .before .before .before .before .before .before .before .before .before .before .before .args .list .now) (c .before .before .before .before .before .before .before .before .before .before .before .loop .i) .after) (c .before .before .before .before .before .before .before .before .before .before .before .loop .inv .1 .held))
-      (c .number-of .ensures),
-  c .before .before .before .before .finish-locked .kept .1 .0 ∙ c .before .before .before .before .before .before .before .before .before .before .before .loop .inv .2,
-  simp length-set (c .before .before .before .before .before .before .before .before .before .before .before .loop .inv .3),
-)
+loop-again c = (search needs, turned c .0, turned c .1, turned c .2)
 
 same-length : tie.Need-same-length Inv-loop μ-loop
 same-length c = search needs
@@ -84,15 +202,34 @@ finish-each-spec =
     Inv-loop
     μ-loop
     loop-holds
+    mul-t18
+    shared-slice-read-t21
+    shared-slice-read-mark
+    shared-slice-read-mark-2
+    shared-slice-read-if1
+    abort-locked-requires
     mul-answers
-    shared-slice-read-answers
-    shared-slice-read-finish-locked
-    shared-slice-read-finish-locked-2
-    shared-slice-read-finish-locked-3
-    finish-locked-requires
-    number-of-requires
-    mul-answers-2
     slice-write-answers
+    settle-unclosed-requires
+    mul-answers-2
+    slice-write-answers-2
+    mul-answers-3
+    slice-write-answers-3
+    settle-closed-requires
+    enum-known-r
+    number-requires
+    cast-answers
+    mul-answers-4
+    slice-write-answers-4
+    enum-known-run
+    with-history-requires
+    mul-answers-5
+    slice-write-answers-5
+    enum-known-run-2
+    with-history-requires-2
+    opened-requires
+    mul-answers-6
+    slice-write-answers-6
     add-i
     loop-less
     loop-again

@@ -9,7 +9,7 @@ use mathlib.Core.List.{[], _∷_}
 use native.Mathlib.Omega.{arith}
 use Rattle.error.specs.Told.{tell}
 use Rattle.breaker.specs.declared.Breaker.{Breaker}
-use Rattle.circuit.proofs.Finishing.{failures-counted}
+use Rattle.steps.proofs.Finishing.{failures-counted}
 use Rattle.circuit.proofs.Figures.{board-none, board-ratio}
 use Rattle.breaker.proofs.Guard.{tested-sound, asked-refused, asked-done}
 use Rattle.steps.proofs.Holding.{holds}

@@ -4,7 +4,7 @@ use mathlib.Core.Bool.{true}
 use borrow.Author.Needs.{needs}
 use Rattle.breaker.specs.Record.{state, sound}
 use Rattle.breaker.specs.Rules as Rules
-use Rattle.circuit.proofs.Finishing.{kept-done}
+use Rattle.steps.proofs.Finishing.{kept-done}
 use Rattle.breaker.proofs.Guard.{tested-sound, sound-refused, sound-done}
 use Rattle.steps.proofs.Holding.{holds}
 use Rattle.circuit.proofs.calls.reset.Statement.{statement}
@@ -23,7 +23,7 @@ enum-told : tie.Need-enum-told
 enum-told c = search needs
 
 close-requires : tie.Need-close-requires
-close-requires c κs = tested (c .before)
+close-requires c κs = search needs
 
 same-length : tie.Need-same-length
 same-length c = search needs
@@ -36,7 +36,7 @@ same-length-2 c = search needs
 
 returns-2 : tie.Need-returns-2
 returns-2 c =
-    kept-done (c .before .before .before .before .before .before .before .before .before .args .breaker .config) (Rules.closing (state (c .before .before .before .before .before .before .before .before .before .args .breaker) (c .before .before .before .before .before .before .before .before .before .args .list .now))) (c .before .before .close .result) (c .before .before .close .last .1 .0) (c .before .before .close .ensures (c .before .before .before .before .before .before .before .before .before .args .breaker .config) (state (c .before .before .before .before .before .before .before .before .before .args .breaker) (c .before .before .before .before .before .before .before .before .before .args .list .now)) (holds (c .before .before .before .before .before .before .before .before .before .args .breaker) (c .before .before .before .before .before .before .before .before .before .args .list .now) (tested (c .before .before .before .before)) .0))
+    kept-done (c .before .before .before .before .before .before .before .before .before .args .breaker .config) (Rules.closing (state (c .before .before .before .before .before .before .before .before .before .args .breaker) (c .before .before .before .before .before .before .before .before .before .args .list .now))) (c .before .before .close .result) (c .before .before .close .last .1 .0) (c .before .before .close .ensures (tested (c .before .before .before .before)) (c .before .before .before .before .before .before .before .before .before .args .breaker .config) (state (c .before .before .before .before .before .before .before .before .before .args .breaker) (c .before .before .before .before .before .before .before .before .before .args .list .now)) (holds (c .before .before .before .before .before .before .before .before .before .args .breaker) (c .before .before .before .before .before .before .before .before .before .args .list .now) (tested (c .before .before .before .before)) .0))
     ∙ sound-done (λ s st. Rules.reset st) (c .before .before .before .before .before .before .before .before .before .args .breaker) (c .before .before .before .before .before .before .before .before .before .args .list .now) (tested (c .before .before .before .before))
 
 pub reset-spec : {M : Type 1} → statement M

@@ -59,7 +59,7 @@ returns c =
     )
 
 step-requires : tie.Need-step-requires Inv-loop μ-loop
-step-requires c κs = search needs
+step-requires c κs = c .before .before .before .before .before .before .loop .inv .0
 
 -- the call that was read, and what it left
 is : (c : tie.After-known-told Inv-loop μ-loop) → CallFits (c .before .read .given .0 .0) × (drop (c .before .before .before .before .before .loop .next) (c .before .before .before .before .before .before .before .before .before .args .s .now) ≡ printCall (c .before .read .given .0 .0) ++ drop (c .before .read .given .0 .1 .0) (c .before .before .before .before .before .before .before .before .before .args .s .now))

@@ -22,8 +22,8 @@ use Rattle.breaker.specs.declared.Breaker.{Breaker}
 use Rattle.breaker.specs.Record.{State, stored, itemsOf, sound}
 use Rattle.breaker.specs.Rules.{done}
 use Rattle.breaker.specs.Calls.{after, kept}
 use Rattle.steps.specs.Steps.{Holds}
-use Rattle.circuit.specs.Locked.{recording}
+use Rattle.steps.specs.Locked.{recording}
 use Rattle.breaker.proofs.Record.{sound→}
 use Rattle.breaker.proofs.Keeps.{SoundAt}
 

@@ -1,6 +1,6 @@
 -- Each answer of settling an outcome, in HalfOpen and in Closed, from the tests that led to it. Assumes nothing.
 use mathlib.Core.Path.{_≡_, refl, sym, ap, _∙_}
-use mathlib.Core.Bool.{Bool, true, false, _&&_, false≢true}
+use mathlib.Core.Bool.{Bool, true, false, not, _&&_, false≢true}
 use mathlib.Core.List.{List, [], _∷_}
 use Prim.Native.Nat.{ℕ, _+_, _-_, _^_, min, _≤_, _<_}
 use native.Mathlib.Nat.{sub-zero}
@@ -21,10 +21,10 @@ use Rattle.breaker.specs.declared.Breaker.{Breaker}
 use Rattle.breaker.specs.Record.{State, settings, stored, sound}
 use Rattle.breaker.specs.Rules.{done, probes, withCounts, withHistory, opening, closing, recorded, noRoom, inHalfOpen, inClosed, settling}
 use Rattle.breaker.specs.Calls.{after, kept}
 use Rattle.steps.specs.Steps.{Holds}
-use Rattle.circuit.specs.Locked.{recording}
+use Rattle.steps.specs.Locked.{recording}
 use Rattle.breaker.proofs.Keeps.{SoundAt, sound-history, sound-recorded}
-use Rattle.circuit.proofs.Finishing.{kept-done}
+use Rattle.steps.proofs.Finishing.{kept-done}
 
 -- ---- HalfOpen
 module _ (b : Breaker) (s : List ℕ) (c : Config) (st : State) (reading : ℕ) (t : Ticket) (good : Bool) (h : Holds c st b s) where
@@ -34,14 +34,22 @@ module _ (b : Breaker) (s : List ℕ) (c : Config) (st : State) (reading : ℕ) 
   pub half-fails : good ≡ false → (next : Breaker) → next ≡ stored c (opening (settings c) reading st) → Half next s
   half-fails e next q = rw e (kept-done c (opening (settings c) reading st) next s (q, h .1))
 
-  pub half-closes : good ≡ true → b .config .required ≤ b .shared .successes + 1 → (next : Breaker) (places : List ℕ) → Holds c (closing st) next places → Half next places
-  half-closes e l next places q = rw (e, le-leb _ _ (rw (h .0) at l)) (kept-done c (closing st) next places q)
+  -- the capped number of successes is the number itself where it is tested
+  abbrev Capped : ℕ → Type 0
+  Capped n = n ≡ min (b .shared .successes + 1) (2 ^ 32 - 1)
 
-  pub half-counts : good ≡ true → b .shared .successes + 1 < b .config .required → (inflight : ℕ) → inflight ≡ b .shared .inflight - probes t → (next : Breaker)
-      → next ≡ stored c (withCounts inflight (b .shared .«trait_probes») (b .shared .successes + 1) st) → Half next s
-  half-counts e l inflight i next q =
+  pub half-closes : good ≡ true → (n : ℕ) → Capped n → b .config .required ≤ n → (next : Breaker) (places : List ℕ) → Holds c (closing st) next places → Half next places
+  half-closes e n k m next places q =
+      let l : b .config .required ≤ b .shared .successes + 1 = omega arith in
+      rw (e, le-leb _ _ (rw (h .0) at l)) (kept-done c (closing st) next places q)
+
+  pub half-counts : good ≡ true → (n : ℕ) → Capped n → n < b .config .required → b .config .required < 2 ^ 32 → (inflight : ℕ) → inflight ≡ b .shared .inflight - probes t → (next : Breaker)
+      → next ≡ stored c (withCounts inflight (b .shared .«trait_probes») n st) → Half next s
+  half-counts e n k v w inflight i next q =
+      let a : n ≡ b .shared .successes + 1 = omega arith in
+      let l : b .shared .successes + 1 < b .config .required = omega arith in
       let m : st .inflight - probes t ≡ inflight = sym (rw (h .0) at i) in
-      rw (e, lt-leb _ _ (rw (h .0) at l), m, sub-zero) (kept-done c (withCounts inflight (st .traitProbes) (st .successes + 1) st) next s (rw (h .0) at q, h .1))
+      rw (e, lt-leb _ _ (rw (h .0) at l), m, sub-zero) (kept-done c (withCounts inflight (st .traitProbes) (st .successes + 1) st) next s (rw (h .0) at (rw a at q), h .1))
 
 -- ---- what recording answered
 module _ (p : Policy) (reading : ℕ) (xs s : List ℕ) where
@@ -84,15 +92,20 @@ module _ (b : Breaker) (c : Config) (st : State) (reading : ℕ) (t : Ticket) (s
       let q = recorded-stored (policyOf c) reading (st .list) s′ false n l in
       kept-done c (withHistory 0 (recorded (policyOf c) false reading (st .list)) st) next s′ (f (recorded (policyOf c) false reading (st .list)) (q .1), q .2)
 
-  pub success-refused : {A : Type 0} (r : Refusal) → left (refused r) s′ ≡ recording false (policyOf c) reading (st .list) → A
+  success-refused : {A : Type 0} (r : Refusal) → left (refused r) s′ ≡ recording false (policyOf c) reading (st .list) → A
   success-refused r l = let z = and-f (noRoom (policyOf c) reading (st .list)) (recorded-refused (policyOf c) reading (st .list) s′ false r l .0) in absurd (omega arith)
 
-  pub failure-refused : (r : Refusal) → left (refused r) s′ ≡ recording true (policyOf c) reading (st .list)
+  failure-refused : (r : Refusal) → left (refused r) s′ ≡ recording true (policyOf c) reading (st .list)
       → after (refused r) b s′ ≡ kept c (inClosed (settings c) reading (settling t false) st)
   unfolding inClosed
   failure-refused r l =
       let q = recorded-refused (policyOf c) reading (st .list) s′ true r l in
       rw (and-t (noRoom (policyOf c) reading (st .list)) true (q .0), q .1, q .2, e)
+
+  pub closed-refused : (good : Bool) (r : Refusal) → left (refused r) s′ ≡ recording (not good) (policyOf c) reading (st .list)
+      → after (refused r) (stored c st) s′ ≡ kept c (inClosed (settings c) reading (settling t good) st)
+  closed-refused true r l = success-refused r l
+  closed-refused false r l = ap (λ (x : Breaker). after (refused r) x s′) (sym e) ∙ failure-refused r l
 
   -- the state with the failure recorded
   abbrev pub counted : State

@@ -13,10 +13,10 @@ use Rattle.breaker.specs.declared.Breaker.{Breaker}
 use Rattle.breaker.specs.Record.{Settings, State, HalfOpen, Closed, settings, stored, sound}
 use Rattle.breaker.specs.Rules.{done, Call, ticket, withCounts, inHalfOpen, inClosed, act, finish, settling, manual}
 use Rattle.breaker.specs.Calls.{after, kept}
 use Rattle.steps.specs.Steps.{Holds}
 use Rattle.breaker.proofs.Keeps.{sound-counts}
 use Rattle.breaker.proofs.Record.{sound→, shared→}
-use Rattle.circuit.proofs.Finishing.{kept-done, at-state}
+use Rattle.steps.proofs.Finishing.{kept-done, at-state}
 
 ticket-settling : (t : Ticket) (good : Bool) → ticket (settling t good) ≡ t
 ticket-settling t true = refl

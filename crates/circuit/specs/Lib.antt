@@ -1,2 +1,0 @@
--- What the private steps promise.
-pub mod Locked
