@@ -16,6 +16,14 @@ use sound::sound_policy;
 use sound::sound_shared;
 use trip::Config;
 
+pub const CLOSED: u8 = 0;
+
+pub const HALF_OPEN: u8 = 1;
+
+pub const OPEN: u8 = 2;
+
+pub const PLACES: usize = 4096;
+
 // What calls change of a breaker, in document 01's order.
 #[repr(C)]
 pub struct Shared {
@@ -172,7 +180,7 @@ pub fn is_sound(breaker: Breaker, list: &[u64]) -> bool
 pub fn test(breaker: Breaker, list: &[u64]) -> Tested
     ensures { λ r. ⌜ r ≡ guarded Tested.Refused Tested.Sound breaker (now (list .entry)) ⌝ }
 {
-    if list.len() != 4096 {
+    if list.len() != PLACES {
         return Tested::Refused(Refusal::Storage);
     }
     if !is_sound(breaker, list) {

@@ -17,7 +17,7 @@ pub fn admit_locked(b: Breaker, now_ms: u64) -> Entry
     ensures { λ r. ⌜ ((c : Config) (st : State) → b ≡ stored c st → r ≡ entry c (admit (settings c) «now_ms» st)) ⌝ }
 {
     let h = b.shared;
-    if h.state == 0 {
+    if h.state == breaker::CLOSED {
         return Entry::Granted(
             Ticket {
                 generation: h.generation,
@@ -26,11 +26,11 @@ pub fn admit_locked(b: Breaker, now_ms: u64) -> Entry
             b,
         );
     }
-    if h.state == 2 {
+    if h.state == breaker::OPEN {
         if now_ms < h.open_until {
             return Entry::Shed(delayed(h.open_until - now_ms));
         }
-        let next = transition(with_counts(b, 1, 0, 0), 1, h.open_until);
+        let next = transition(with_counts(b, 1, 0, 0), breaker::HALF_OPEN, h.open_until);
         return Entry::Granted(
             Ticket {
                 generation: next.shared.generation,

@@ -8,48 +8,24 @@ ghost use Rattle.trip.specs.declared.Config.{Config};
 ghost use Rattle.breaker.specs.Record.{State, settings, stored};
 ghost use Rattle.breaker.specs.Rules.{next, withCounts, withHistory, moved, opening};
 use breaker::Breaker;
-use breaker::Shared;
 
 // Ruled out: inflight and trait probes exchanged; a run that is cleared with them.
-pub fn with_counts(b: Breaker, inflight: u32, trait_probes: u32, successes: u32) -> Breaker
+pub fn with_counts(mut b: Breaker, inflight: u32, trait_probes: u32, successes: u32) -> Breaker
     ensures { λ r. ⌜ ((c : Config) (st : State) → b ≡ stored c st → r ≡ stored c (withCounts inflight «trait_probes» successes st)) ⌝ }
 {
-    let config = b.config;
-    let h = b.shared;
-    Breaker {
-        config,
-        shared: Shared {
-            state: h.state,
-            generation: h.generation,
-            run: h.run,
-            inflight,
-            trait_probes,
-            successes,
-            open_until: h.open_until,
-            len: h.len,
-        },
-    }
+    b.shared.inflight = inflight;
+    b.shared.trait_probes = trait_probes;
+    b.shared.successes = successes;
+    b
 }
 
 // Ruled out: a length that stays; counts that are cleared with the run.
-pub fn with_history(b: Breaker, run: u32, len: u32) -> Breaker
+pub fn with_history(mut b: Breaker, run: u32, len: u32) -> Breaker
     ensures { λ r. ⌜ ((c : Config) (st : State) (xs : List ℕ) → b ≡ stored c st → len ≡ length xs → r ≡ stored c (withHistory run xs st)) ⌝ }
 {
-    let config = b.config;
-    let h = b.shared;
-    Breaker {
-        config,
-        shared: Shared {
-            state: h.state,
-            generation: h.generation,
-            run,
-            inflight: h.inflight,
-            trait_probes: h.trait_probes,
-            successes: h.successes,
-            open_until: h.open_until,
-            len,
-        },
-    }
+    b.shared.run = run;
+    b.shared.len = len;
+    b
 }
 
 fn next_generation(generation: u64) -> u64
@@ -59,24 +35,14 @@ fn next_generation(generation: u64) -> u64
 }
 
 // Ruled out: a generation that stays; one that does not wrap.
-pub fn transition(b: Breaker, to: u8, until: u64) -> Breaker
+pub fn transition(mut b: Breaker, to: u8, until: u64) -> Breaker
     ensures { λ r. ⌜ ((c : Config) (st : State) → b ≡ stored c st → r ≡ stored c (moved to until st)) ⌝ }
 {
-    let config = b.config;
-    let h = b.shared;
-    Breaker {
-        config,
-        shared: Shared {
-            state: to,
-            generation: next_generation(h.generation),
-            run: h.run,
-            inflight: h.inflight,
-            trait_probes: h.trait_probes,
-            successes: h.successes,
-            open_until: until,
-            len: h.len,
-        },
-    }
+    let generation = next_generation(b.shared.generation);
+    b.shared.state = to;
+    b.shared.generation = generation;
+    b.shared.open_until = until;
+    b
 }
 
 fn capped_sum(a: u64, b: u64) -> u64

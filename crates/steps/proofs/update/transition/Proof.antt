@@ -7,7 +7,7 @@ next-generation-requires : tie.Need-next-generation-requires
 next-generation-requires c κs = search needs
 
 returns : tie.Need-returns
-returns c = λ cfg st e. simp (e, c .next-generation .ensures)
+returns c = λ cfg st e. simp (e, c .before .before .before .next-generation .ensures)
 
 pub transition-spec : {M : Type 1} → statement M
 transition-spec = tie.close (tie.spec next-generation-requires returns)
