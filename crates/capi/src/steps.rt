@@ -320,9 +320,9 @@ pub(crate) fn finish_all_step(
     list: &mut [u64],
     now_ms: u64,
     generations: &[u64],
-    probes: &[bool],
-    settles: &[bool],
-    marks: &[bool],
+    probes: &[u8],
+    settles: &[u8],
+    marks: &[u8],
     answers: &mut [u64],
 ) -> Step
     ensures { λ r. ⌜ crossings (crossing (r .answer) (r .breaker) (now (list .exit))) (now (answers .exit)) ≡ crossedAll (finishedAll «now_ms» (slices (now (generations .entry)) (now (probes .entry)) (now (settles .entry)) (now (marks .entry))) breaker (now (list .entry)) (now (answers .entry))) ⌝ }

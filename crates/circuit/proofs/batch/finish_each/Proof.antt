@@ -2,13 +2,13 @@
 -- Assumes nothing.
 use Prim.Native.Nat.{_+_, _≤_, _-_}
 use mathlib.Core.Path.{_≡_, refl, ap, _∙_}
-use mathlib.Core.Bool.{false}
 use mathlib.Core.Logic.{⊎-elim}
 use native.Mathlib.Omega.{arith}
 use borrow.Author.Needs.{needs}
-use borrow.Author.Tests.{not-true, not-false}
 use lib.ListN.{length, length-set, getD}
+use Rattle.error.specs.Choice.{flagOf}
 use Rattle.error.specs.Told.{nothing, refused}
+use Rattle.error.proofs.Choice.{flag-no, flag-yes}
 use Rattle.breaker.specs.declared.Ticket.{Ticket}
 use Rattle.breaker.specs.declared.Breaker.{Breaker}
 use Rattle.breaker.specs.Calls.{after}
@@ -37,14 +37,14 @@ mul-t18 c = search needs
 shared-slice-read-t21 : tie.Need-shared-slice-read-t21 Inv-loop μ-loop
 shared-slice-read-t21 c = search needs
 
+shared-slice-read-if1 : tie.Need-shared-slice-read-if1 Inv-loop μ-loop
+shared-slice-read-if1 c = search needs
+
 shared-slice-read-mark : tie.Need-shared-slice-read-mark Inv-loop μ-loop
 shared-slice-read-mark c = search needs
 
-shared-slice-read-mark-2 : tie.Need-shared-slice-read-mark-2 Inv-loop μ-loop
-shared-slice-read-mark-2 c = search needs
-
-shared-slice-read-if1 : tie.Need-shared-slice-read-if1 Inv-loop μ-loop
-shared-slice-read-if1 c = search needs
+shared-slice-read-if1-2 : tie.Need-shared-slice-read-if1-2 Inv-loop μ-loop
+shared-slice-read-if1-2 c = search needs
 
 abort-locked-requires : tie.Need-abort-locked-requires Inv-loop μ-loop
 abort-locked-requires c κs = search needs
@@ -130,47 +130,48 @@ turned c =
     let st = soFar x (a .now-ms) (a .start) (a .list .now) (l .i) .after in
     let h = l .inv .1 .held in
     let ok = turn-sound x (a .now-ms) (a .start) (a .list .now) (c .before .before .before .before .before .before .before .before .before .before .before .before .before .pre .0) (l .inv .1) in
-    let t : Ticket = record { generation = getD (x .generations) (l .i) 0; probe = getD (x .probes) (l .i) false } in
-    let s = getD (x .settles) (l .i) false in
-    let m = getD (x .marks) (l .i) false in
+    let t : Ticket = record { generation = getD (x .generations) (l .i) 0; probe = flagOf (getD (x .probes) (l .i) 0) } in
+    let n = getD (x .settles) (l .i) 0 in
+    let s = flagOf n in
+    let m = flagOf (getD (x .marks) (l .i) 0) in
     let more = turn-more x (a .now-ms) (a .start) (a .list .now) (l .inv .1) (omega (arith, c .before .before .before .before .before .before .before .before .before .before .before .before .before .pre .1, c .before .before .before .before .before .loop-test .taken)) in
     let settled = call-settles cfg st (a .now-ms) t m (l .list) (l .b) h s in
     let shut = call-closed cfg st (a .now-ms) t m (l .list) (l .b) h s in
     ⊎-elim
     (λ w. rw (w .2, w .3, w .4) (
-      more nothing (w .1 .result) (l .list) 0 (call-aborts cfg st (a .now-ms) t m (l .list) (l .b) h s (not-true s (w .0 .taken)) (w .1 .result) (w .1 .ensures cfg st (a .now-ms) (h .0))) refl,
+      more nothing (w .1 .result) (l .list) 0 (call-aborts cfg st (a .now-ms) t m (l .list) (l .b) h s (flag-no n (w .0 .taken)) (w .1 .result) (w .1 .ensures cfg st (a .now-ms) (h .0))) refl,
       l .inv .2,
       simp length-set (l .inv .3),
     ))
     (⊎-elim
     (λ w. rw (w .7, w .8, w .9) (
-      more nothing (w .4 .result) (w .4 .last .1 .0) 0 (settled (not-false s (w .0 .left)) _ (w .4 .ensures ok (w .2 .taken) cfg st h)) refl,
+      more nothing (w .4 .result) (w .4 .last .1 .0) 0 (settled (flag-yes n (w .0 .left)) _ (w .4 .ensures ok (w .2 .taken) cfg st h)) refl,
       w .4 .kept .1 .0 ∙ l .inv .2,
       simp length-set (l .inv .3),
     ))
     (⊎-elim
     (λ w. rw (w .6, w .7, w .8) (
-      more nothing (l .b) (l .list) 0 (settled (not-false s (w .0 .left)) _ (settle-stale (l .b) (l .list) cfg st (a .now-ms) t m h (w .5 .taken))) refl,
+      more nothing (l .b) (l .list) 0 (settled (flag-yes n (w .0 .left)) _ (settle-stale (l .b) (l .list) cfg st (a .now-ms) t m h (w .5 .taken))) refl,
       l .inv .2,
       simp length-set (l .inv .3),
     ))
     (⊎-elim
     (λ w. let k = rw (w .11 .given .1) at (w .7 .ensures ok cfg st h t) in
     rw (w .14, w .15, w .16) (
-      more (refused (w .11 .given .0 .0)) (l .b) (w .7 .last .1 .0) (w .13 .result) (shut (not-false s (w .0 .left)) (w .5 .left) (w .2 .left) _ (ap (λ (y : Breaker). after (refused (w .11 .given .0 .0)) y (w .7 .last .1 .0)) (h .0) ∙ k)) (w .13 .ensures),
+      more (refused (w .11 .given .0 .0)) (l .b) (w .7 .last .1 .0) (w .13 .result) (shut (flag-yes n (w .0 .left)) (w .5 .left) (w .2 .left) _ (ap (λ (y : Breaker). after (refused (w .11 .given .0 .0)) y (w .7 .last .1 .0)) (h .0) ∙ k)) (w .13 .ensures),
       w .7 .kept .1 .0 ∙ l .inv .2,
       simp length-set (l .inv .3),
     ))
     (⊎-elim
     (λ w. let k = rw (w .11 .given .1) at (w .7 .ensures ok cfg st h t) in
     rw (w .14, w .15, w .16) (
-      more nothing (w .13 .result) (w .7 .last .1 .0) 0 (shut (not-false s (w .0 .left)) (w .5 .left) (w .2 .left) _ (k (w .13 .result) (λ ys n. w .13 .ensures cfg st ys (h .0) n))) refl,
+      more nothing (w .13 .result) (w .7 .last .1 .0) 0 (shut (flag-yes n (w .0 .left)) (w .5 .left) (w .2 .left) _ (k (w .13 .result) (λ ys n. w .13 .ensures cfg st ys (h .0) n))) refl,
       w .7 .kept .1 .0 ∙ l .inv .2,
       simp length-set (l .inv .3),
     ))
     (λ w. let k = rw (w .11 .given .1) at (w .7 .ensures ok cfg st h t) in
     rw (w .15, w .16, w .17) (
-      more nothing (w .14 .result) (w .7 .last .1 .0) 0 (shut (not-false s (w .0 .left)) (w .5 .left) (w .2 .left) _ (k (w .13 .result) (w .14 .result) (λ ys n. w .13 .ensures cfg st ys (h .0) n) (λ st′ e. w .14 .ensures cfg st′ e))) refl,
+      more nothing (w .14 .result) (w .7 .last .1 .0) 0 (shut (flag-yes n (w .0 .left)) (w .5 .left) (w .2 .left) _ (k (w .13 .result) (w .14 .result) (λ ys n. w .13 .ensures cfg st ys (h .0) n) (λ st′ e. w .14 .ensures cfg st′ e))) refl,
       w .7 .kept .1 .0 ∙ l .inv .2,
       simp length-set (l .inv .3),
     ))
@@ -204,9 +205,9 @@ finish-each-spec =
     loop-holds
     mul-t18
     shared-slice-read-t21
-    shared-slice-read-mark
-    shared-slice-read-mark-2
     shared-slice-read-if1
+    shared-slice-read-mark
+    shared-slice-read-if1-2
     abort-locked-requires
     mul-answers
     slice-write-answers
