@@ -19,7 +19,8 @@ use Rattle.breaker.specs.Orders.{run}
 use Rattle.wait.specs.declared.Wait.{Wait}
 use Rattle.wait.specs.declared.Observed.{Observed}
 use Rattle.wait.specs.Turns.{newWait}
-use Rattle.wait.specs.Keep.{turned, tellTurn}
+use Rattle.wait.specs.Manner.{turned, tellTurn}
+use Rattle.wait.specs.Keep.{keep}
 
 -- "P1 n 0 becomes 1."
 abbrev pub P1 : Type 0
@@ -121,7 +122,7 @@ retryNow clock =
 -- what each turn tells
 abbrev pub tells : List Observed → Wait → List Told
 tells [] w = []
-tells (t ∷ ts) w = tellTurn (turned w t) .told ∷ tells ts (turned w t .wait)
+tells (t ∷ ts) w = tellTurn (turned keep w t) .told ∷ tells ts (turned keep w t .wait)
 
 abbrev pub yields : Told
 yields = tell 0 (3 ∷ [])

@@ -21,8 +21,8 @@ use Rattle.wait.specs.declared.Turning.{Turning}
 use Rattle.wait.specs.declared.Running.{Running}
 use Rattle.wait.specs.declared.Dropping.{Dropping}
 use Rattle.wait.specs.Answers.{turnedTold, ranTold, startedTold, droppedTold}
-use Rattle.wait.specs.Keep.{After, turning, tellTurn}
-use Rattle.wait.specs.Run.{running, dropping, Report, tellRun, tellDrop}
+use Rattle.wait.specs.Manner.{After, turning, tellTurn, dropping, tellDrop}
+use Rattle.wait.specs.Run.{running, Report, tellRun}
 
 -- what the host is to do
 abbrev pub actIn : List ℕ → Act

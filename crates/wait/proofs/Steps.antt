@@ -4,18 +4,15 @@ use native.Mathlib.Omega.{arith}
 use mathlib.Core.Path.{_≡_, refl, sym, ap, _∙_}
 use mathlib.Core.Bool.{true, false}
 use borrow.Author.Tests.{eq-eqb, ne-eqb, le-leb, lt-leb, lt-ltb, le-ltb}
-use Rattle.error.specs.Choice.{if_then_else_}
 use Rattle.wait.specs.declared.Wait.{Wait}
 use Rattle.wait.specs.declared.Observed.{Observed}
 use Rattle.wait.specs.declared.Act.the-variants.{Sleep, Yield}
 use Rattle.wait.specs.declared.Ending.the-variants.{Done, Deadline}
-use Rattle.wait.specs.declared.Dropped.the-variants.{GiveBack}
 use Rattle.wait.specs.declared.Move.the-variants.{Goes, Ends}
 use Rattle.wait.proofs.Limits.{times, bounded, →bounded}
 use Rattle.wait.specs.Budget.{budget}
-use Rattle.wait.specs.Turns.{endedWait, isHolding, hasEnded, turnInBounds, waitInBounds, Budget, unlimited, left, remaining, exceeds, usedUp, smaller, withZeros, sleeping, naps, retriesZero, retries}
+use Rattle.wait.specs.Turns.{turnInBounds, waitInBounds, Budget, unlimited, left, remaining, exceeds, usedUp, smaller, withZeros, sleeping, naps, retriesZero, retries}
 use Rattle.wait.specs.Keep.{holding, postponed, napOf, holdsOn, checks, grants}
-use Rattle.wait.specs.Run.{dropping, dropped}
 
 -- ---- a budget as a number
 
@@ -132,8 +129,3 @@ module _ (w : Wait) (t : Observed) where
         seen = ts .before;
         due = omega (arith, ts .clock, ts .duration);
       })
-
--- ---- a dropped wait
-pub drop-ends : (w : Wait) (n : ℕ) → hasEnded w ≡ false → waitInBounds w ≡ true → (if isHolding w then 1 else 0) ≡ n → dropping (GiveBack n) endedWait ≡ dropped w
-unfolding dropped
-drop-ends w n e b h = rw (e, b, h)

@@ -1,6 +1,6 @@
 -- "Waiting answers": what every manner of waiting shares: bounds, what remains, and retries. Definitions only.
 use Prim.Native.Nat.{ℕ, _+_, _-_, _^_, min}
-use mathlib.Core.Bool.{Bool, true, false, not, _&&_, _||_}
+use mathlib.Core.Bool.{Bool, true, false, _&&_}
 use lib.Dec.{eqb, leb, ltb}
 use Rattle.error.specs.Choice.{if_then_else_}
 use Rattle.error.specs.declared.Refusal.the-variants as Refusal·is
@@ -18,11 +18,12 @@ use Rattle.wait.specs.declared.Started.the-variants as Started·is
 abbrev pub endedWait : Wait
 endedWait = record { phase = 0; limited = 0; deadline = 0; seen = 0; due = 0; zeros = 0 }
 
+-- it looks for a grant, or it holds one
+abbrev pub isLooking : Wait → Bool
+isLooking w = eqb (w .phase) 1
+
 abbrev pub isHolding : Wait → Bool
 isHolding w = eqb (w .phase) 2
-
-abbrev pub hasEnded : Wait → Bool
-hasEnded w = not (eqb (w .phase) 1 || isHolding w)
 
 -- ---- number 1: "No clock, duration, pause, timeout or postponement may exceed 2^62 ns; epochs are free."
 

@@ -1,13 +1,11 @@
 // The calls on a wait: start, one turn, a run of turns, drop. Each tests what it is handed.
 ghost use mathlib.Core.Path.{_≡_};
-ghost use lib.ListN.{length, drop};
-ghost use Prim.Native.Nat.{_≤_, _+_};
 ghost use Rattle.wait.specs.Answers.{startedTold};
-ghost use Rattle.wait.specs.Keep.{turned, tellTurn};
-ghost use Rattle.wait.specs.Run.{runs, tellRun, standing, turnOf, dropped, tellDrop};
+ghost use Rattle.wait.specs.Keep.{keep};
+ghost use Rattle.wait.specs.Manner.{dropped, tellDrop, tellTurn, turned};
+ghost use Rattle.wait.specs.Run.{runs, tellRun};
 ghost use Rattle.wait.specs.Turns as Turns;
-ghost use Rattle.wait.specs.Turns.{started, endedWait};
-use crate::Dropped;
+ghost use Rattle.wait.specs.Turns.{started};
 use crate::Dropping;
 use crate::Move;
 use crate::Observed;
@@ -18,26 +16,16 @@ use crate::Tested;
 use crate::Turned;
 use crate::Turning;
 use crate::Wait;
-use crate::bounds::has_ended;
 use crate::bounds::is_time;
-use crate::bounds::test;
-use crate::bounds::wait_in_bounds;
+use crate::keep::has_ended;
+use crate::keep::is_holding;
 use crate::keep::moves;
+use crate::keep::test;
+use crate::manner::drop_as;
+use crate::manner::ended_wait;
+use crate::manner::stand;
+use crate::manner::turn_at;
 use error::Refusal;
-
-// A wait that has ended.
-fn ended_wait() -> Wait
-    ensures { λ r. ⌜ r ≡ endedWait ⌝ }
-{
-    Wait {
-        phase: 0,
-        limited: 0,
-        deadline: 0,
-        seen: 0,
-        due: 0,
-        zeros: 0,
-    }
-}
 
 // A wait that looks, and has seen nothing.
 fn looking(limited: u64, deadline: u64) -> Wait
@@ -73,7 +61,7 @@ pub fn start(clock: u64, limited: bool, timeout: u64) -> Started
 // One turn of a wait. A refused one leaves the wait; one that ends it leaves an ended wait.
 // Ruled out: a deadline before the first look; a give-back on a plain retry.
 pub fn turn(wait: Wait, turn: Observed) -> Turning
-    ensures { λ r. ⌜ tellTurn r ≡ tellTurn (turned wait turn) ⌝ }
+    ensures { λ r. ⌜ tellTurn r ≡ tellTurn (turned keep wait turn) ⌝ }
 {
     let verdict = test(wait, turn);
     if let Tested::Fails(r) = verdict {
@@ -95,40 +83,10 @@ pub fn turn(wait: Wait, turn: Observed) -> Turning
     }
 }
 
-// The eight numbers from `at` on.
-fn turn_at(turns: &[u64], at: usize) -> Observed
-    requires { ⌜ at + 8 ≤ length (now turns) ⌝ }
-    ensures { λ r. ⌜ r ≡ turnOf (drop at (now (turns .entry))) ⌝ }
-{
-    Observed {
-        clock: turns[at],
-        epoch_before: turns[at + 1],
-        epoch_after: turns[at + 2],
-        kind: turns[at + 3],
-        duration: turns[at + 4],
-        pause: turns[at + 5],
-        postponed_before: turns[at + 6],
-        postponed_after: turns[at + 7],
-    }
-}
-
-// What a run is told when no turn is left or its limit is reached.
-fn stand(wait: Wait) -> Ran
-    ensures { λ r. ⌜ r ≡ standing wait ⌝ }
-{
-    if has_ended(wait) {
-        return Ran::Refused(Refusal::Turn);
-    }
-    if !wait_in_bounds(wait) {
-        return Ran::Refused(Refusal::Time);
-    }
-    Ran::Unfinished
-}
-
 // Takes turns until the wait ends, one is refused, or the limit or the turns are used up. A turn past the limit is not read.
 // Ruled out: a count that isn't that of the rules; a run that reads past the end.
 pub fn run(wait: Wait, turns: &[u64], limit: u64) -> Running
-    ensures { λ r. ⌜ tellRun r ≡ tellRun (runs wait (now (turns .entry)) limit) ⌝ }
+    ensures { λ r. ⌜ tellRun r ≡ tellRun (runs keep wait (now (turns .entry)) limit) ⌝ }
 {
     if turns.len() % 8 != 0 {
         return Running {
@@ -143,7 +101,7 @@ pub fn run(wait: Wait, turns: &[u64], limit: u64) -> Running
     while at < turns.len() {
         if taken >= limit {
             return Running {
-                answer: stand(reached),
+                answer: stand(has_ended(reached), reached),
                 taken,
                 wait: reached,
             };
@@ -174,7 +132,7 @@ pub fn run(wait: Wait, turns: &[u64], limit: u64) -> Running
         taken += 1;
     }
     Running {
-        answer: stand(reached),
+        answer: stand(has_ended(reached), reached),
         taken,
         wait: reached,
     }
@@ -183,28 +141,7 @@ pub fn run(wait: Wait, turns: &[u64], limit: u64) -> Running
 // Ends a wait before it has ended (`Drop` of the Rust's `Release`): a held grant is to be given back.
 // Ruled out: one that keeps a held grant; one that gives back for a wait that holds none.
 pub fn drop_wait(wait: Wait) -> Dropping
-    ensures { λ r. ⌜ tellDrop r ≡ tellDrop (dropped wait) ⌝ }
+    ensures { λ r. ⌜ tellDrop r ≡ tellDrop (dropped keep wait) ⌝ }
 {
-    if has_ended(wait) {
-        return Dropping {
-            answer: Dropped::Refused(Refusal::Turn),
-            wait,
-        };
-    }
-    if !wait_in_bounds(wait) {
-        return Dropping {
-            answer: Dropped::Refused(Refusal::Time),
-            wait,
-        };
-    }
-    if wait.phase == 2 {
-        return Dropping {
-            answer: Dropped::GiveBack(1),
-            wait: ended_wait(),
-        };
-    }
-    Dropping {
-        answer: Dropped::GiveBack(0),
-        wait: ended_wait(),
-    }
+    drop_as(has_ended(wait), is_holding(wait), wait)
 }

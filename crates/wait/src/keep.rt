@@ -2,16 +2,54 @@
 ghost use mathlib.Core.Path.{_≡_};
 ghost use mathlib.Core.Bool.{true};
 ghost use Rattle.wait.specs.Keep as Keep;
-ghost use Rattle.wait.specs.Keep.{checks, grants, holdsOn};
-ghost use Rattle.wait.specs.Turns.{turnInBounds, waitInBounds};
+ghost use Rattle.wait.specs.Keep.{checks, grants, hasEnded, holdsOn, isKnown, keep};
+ghost use Rattle.wait.specs.Manner.{tested};
+ghost use Rattle.wait.specs.Turns.{isHolding, turnInBounds, waitInBounds};
+ghost use Rattle.wait.specs.declared.Tested.the-variants.{Passes, Fails};
 use crate::Act;
 use crate::Ending;
 use crate::Move;
 use crate::Observed;
+use crate::Tested;
 use crate::Wait;
+use crate::manner::in_order;
 use crate::retries::remaining;
 use crate::retries::retry;
 use crate::retries::sleeping;
+
+pub(crate) fn is_holding(wait: Wait) -> bool
+    ensures { λ r. ⌜ r ≡ isHolding wait ⌝ }
+{
+    wait.phase == 2
+}
+
+pub(crate) fn has_ended(wait: Wait) -> bool
+    ensures { λ r. ⌜ r ≡ hasEnded wait ⌝ }
+{
+    if wait.phase == 1 {
+        return false;
+    }
+    !is_holding(wait)
+}
+
+fn is_known(kind: u64) -> bool
+    ensures { λ r. ⌜ r ≡ isKnown kind ⌝ }
+{
+    if kind == 1 {
+        return true;
+    }
+    if kind == 2 {
+        return true;
+    }
+    kind == 3
+}
+
+// The tests of a turn.
+pub(crate) fn test(wait: Wait, turn: Observed) -> Tested
+    ensures { λ r. ⌜ r ≡ tested keep Fails Passes wait turn ⌝ }
+{
+    in_order(has_ended(wait), is_known(turn.kind), wait, turn)
+}
 
 fn holding(due: u64, seen: u64, wait: Wait) -> Wait
     ensures { λ r. ⌜ r ≡ Keep.holding due seen wait ⌝ }
@@ -85,7 +123,7 @@ pub(crate) fn moves(wait: Wait, turn: Observed) -> Move
     requires { ⌜ waitInBounds wait ≡ true ⌝ }
     ensures { λ r. ⌜ r ≡ Keep.moves wait turn ⌝ }
 {
-    if wait.phase == 2 {
+    if is_holding(wait) {
         return check(wait, turn);
     }
     if turn.kind == 1 {

@@ -3,6 +3,7 @@
 mod bounds;
 mod calls;
 mod keep;
+mod manner;
 mod retries;
 
 pub use calls::drop_wait;

@@ -47,8 +47,9 @@ use Rattle.wait.specs.declared.Dropping.{Dropping}
 use Rattle.wait.specs.Answers.{actValues, startedTold, waitValues}
 use Rattle.wait.specs.Turns.{started}
 use Rattle.wait.proofs.OneToOne.{started-one}
-use Rattle.wait.specs.Keep.{turned}
-use Rattle.wait.specs.Run.{runs, dropped}
+use Rattle.wait.specs.Manner.{turned, dropped}
+use Rattle.wait.specs.Run.{runs}
+use Rattle.wait.specs.Keep.{keep}
 use Rattle.waiting.specs.declared.Pending.{Pending}
 use Rattle.waiting.specs.declared.Running as Waiting·running
 use Rattle.waiting.specs.declared.Course.the-variants.{Refused}
@@ -140,13 +141,13 @@ module _ (t : Observed) (reading capacity : ℕ) (b : Breaker) (s : List ℕ) (p
   unfolding turning
   turn-tested r e = guarded-refused (λ r. after (refused r) b s p) _ b s r e
 
-  pub turn-is : sound b s ≡ true → (x : Turning) → x ≡ turned (p .wait) t → turnedTo (x .answer) (x .wait) reading capacity b s p ≡ turning t reading capacity b s p
+  pub turn-is : sound b s ≡ true → (x : Turning) → x ≡ turned keep (p .wait) t → turnedTo (x .answer) (x .wait) reading capacity b s p ≡ turning t reading capacity b s p
   unfolding turning
   turn-is ok x e =
       ap (λ (y : Turning). turnedTo (y .answer) (y .wait) reading capacity b s p) e ∙ guarded-done (λ r. after (refused r) b s p) _ b s ok
 
   -- what the wait's own turn x answered, with the wait q that is left
-  module _ (ok : sound b s ≡ true) (x : Turning) (is : x ≡ turned (p .wait) t) (q : Pending) (left : q ≡ pending (x .wait) (p .ticket)) where
+  module _ (ok : sound b s ≡ true) (x : Turning) (is : x ≡ turned keep (p .wait) t) (q : Pending) (left : q ≡ pending (x .wait) (p .ticket)) where
     pub turn-next : (act : Act) → x .answer ≡ Turned·is.Next act → after (tell 0 (actValues act)) b s q ≡ turning t reading capacity b s p
     turn-next act e =
         ap (after (tell 0 (actValues act)) b s) left ∙ ap (λ (a : Turned). turnedTo a (x .wait) reading capacity b s p) (sym e) ∙ turn-is ok x is
@@ -165,7 +166,7 @@ module _ (turns : List ℕ) (limit reading capacity : ℕ) (b : Breaker) (s : Li
   run-turns n = simp (ne-eqb _ _ n)
 
   whole : length turns % 8 ≡ 0 → (x : Report)
-      → x ≡ guarded (λ r. report (after (refused r) b s p) 0) (report (ranTo (runs (p .wait) turns limit .answer) (runs (p .wait) turns limit .wait) reading capacity b s p) (runs (p .wait) turns limit .taken)) b s
+      → x ≡ guarded (λ r. report (after (refused r) b s p) 0) (report (ranTo (runs keep (p .wait) turns limit .answer) (runs keep (p .wait) turns limit .wait) reading capacity b s p) (runs keep (p .wait) turns limit .taken)) b s
       → x ≡ running turns limit reading capacity b s p
   unfolding running
   whole m x e = rw (eq-eqb _ _ m) e
@@ -174,12 +175,12 @@ module _ (turns : List ℕ) (limit reading capacity : ℕ) (b : Breaker) (s : Li
       → report (after (refused r) b s p) 0 ≡ running turns limit reading capacity b s p
   run-tested m r e = whole m _ (guarded-refused (λ r. report (after (refused r) b s p) 0) _ b s r e)
 
-  pub run-is : length turns % 8 ≡ 0 → sound b s ≡ true → (x : Running) → x ≡ runs (p .wait) turns limit
+  pub run-is : length turns % 8 ≡ 0 → sound b s ≡ true → (x : Running) → x ≡ runs keep (p .wait) turns limit
       → report (ranTo (x .answer) (x .wait) reading capacity b s p) (x .taken) ≡ running turns limit reading capacity b s p
   run-is m ok x e =
       whole m _ (ap (λ (y : Running). report (ranTo (y .answer) (y .wait) reading capacity b s p) (y .taken)) e ∙ guarded-done (λ r. report (after (refused r) b s p) 0) _ b s ok)
 
-  module _ (m : length turns % 8 ≡ 0) (ok : sound b s ≡ true) (x : Running) (is : x ≡ runs (p .wait) turns limit) (q : Pending) (left : q ≡ pending (x .wait) (p .ticket)) where
+  module _ (m : length turns % 8 ≡ 0) (ok : sound b s ≡ true) (x : Running) (is : x ≡ runs keep (p .wait) turns limit) (q : Pending) (left : q ≡ pending (x .wait) (p .ticket)) where
     -- the run's answer a, with the same turns taken
     ran-is : (a : Ran) → x .answer ≡ a → report (ranTo a (x .wait) reading capacity b s p) (x .taken) ≡ running turns limit reading capacity b s p
     ran-is a e = ap (λ (y : Ran). report (ranTo y (x .wait) reading capacity b s p) (x .taken)) (sym e) ∙ run-is m ok x is
@@ -200,11 +201,11 @@ module _ (b : Breaker) (s : List ℕ) (p : Pending) where
   unfolding leaving
   drop-tested r e = guarded-refused (λ r. after (refused r) b s p) _ b s r e
 
-  pub drop-is : sound b s ≡ true → (x : Dropping) → x ≡ dropped (p .wait) → droppedTo (x .answer) (x .wait) b s p ≡ leaving b s p
+  pub drop-is : sound b s ≡ true → (x : Dropping) → x ≡ dropped keep (p .wait) → droppedTo (x .answer) (x .wait) b s p ≡ leaving b s p
   unfolding leaving
   drop-is ok x e = ap (λ (y : Dropping). droppedTo (y .answer) (y .wait) b s p) e ∙ guarded-done (λ r. after (refused r) b s p) _ b s ok
 
-  module _ (ok : sound b s ≡ true) (x : Dropping) (is : x ≡ dropped (p .wait)) (q : Pending) (left : q ≡ pending (x .wait) (p .ticket)) where
+  module _ (ok : sound b s ≡ true) (x : Dropping) (is : x ≡ dropped keep (p .wait)) (q : Pending) (left : q ≡ pending (x .wait) (p .ticket)) where
     pub drop-refused : (r : Refusal) → x .answer ≡ Dropped·is.Refused r → after (refused r) b s q ≡ leaving b s p
     drop-refused r e =
         ap (after (refused r) b s) left

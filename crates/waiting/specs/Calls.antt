@@ -24,8 +24,9 @@ use Rattle.wait.specs.declared.Dropped.{Dropped}
 use Rattle.wait.specs.declared.Dropped.the-variants as Dropped·is
 use Rattle.wait.specs.Answers.{actValues}
 use Rattle.wait.specs.Turns.{started}
-use Rattle.wait.specs.Keep.{turned}
-use Rattle.wait.specs.Run.{wholeTurns, runs, dropped}
+use Rattle.wait.specs.Manner.{turned, dropped}
+use Rattle.wait.specs.Run.{wholeTurns, runs}
+use Rattle.wait.specs.Keep.{keep}
 use Rattle.waiting.specs.declared.Pending.{Pending}
 use Rattle.waiting.specs.Rules.{afterAbort, completes}
 
@@ -74,7 +75,7 @@ turnedTo (Turned·is.Refused r) w reading capacity b s p = after (refused r) b s
 
 unfoldable pub turning : Observed → ℕ → ℕ → Breaker → List ℕ → Pending → After
 turning t reading capacity b s p =
-    let x = turned (p .wait) t in
+    let x = turned keep (p .wait) t in
     guarded (λ r. after (refused r) b s p) (turnedTo (x .answer) (x .wait) reading capacity b s p) b s
 
 -- ---- a run: "a run adds turns taken, wait reached"; 3 is tested on the whole buffer of turns
@@ -93,7 +94,7 @@ ranTo (Ran·is.Refused r) w reading capacity b s p = after (refused r) b s (pend
 
 unfoldable pub running : List ℕ → ℕ → ℕ → ℕ → Breaker → List ℕ → Pending → Report
 running turns limit reading capacity b s p =
-    let x = runs (p .wait) turns limit in
+    let x = runs keep (p .wait) turns limit in
     if wholeTurns turns then
     guarded (λ r. report (after (refused r) b s p) 0) (report (ranTo (x .answer) (x .wait) reading capacity b s p) (x .taken)) b s
     else report (after (refused Storage) b s p) 0
@@ -107,5 +108,5 @@ droppedTo (Dropped·is.Refused r) w b s p = after (refused r) b s (pending w (p 
 
 unfoldable pub leaving : Breaker → List ℕ → Pending → After
 leaving b s p =
-    let x = dropped (p .wait) in
+    let x = dropped keep (p .wait) in
     guarded (λ r. after (refused r) b s p) (droppedTo (x .answer) (x .wait) b s p) b s
