@@ -101,16 +101,16 @@ P10 =
     let t = ticketOf fresh false in
     (st .generation ≡ 1) × (stillAdmits reading t st ≡ tell 0 []) × (finish s reading (failure t) st ≡ done st)
 
-abbrev pub ending : ℕ → List Call → ℕ
-ending required cs = run (set (Consecutive 2) 1000 required) 40 cs (trying 7) .after .state
+abbrev pub finalState : ℕ → List Call → ℕ
+finalState required cs = run (set (Consecutive 2) 1000 required) 40 cs (trying 7) .after .state
 
 -- "P11 trials 2, required 2: success and failure open in either order; required 1: order decides."
 abbrev pub P11 : Type 0
 P11 =
-    (ending 2 (success (probe 7) ∷ failure (probe 7) ∷ []) ≡ Open)
-    × (ending 2 (failure (probe 7) ∷ success (probe 7) ∷ []) ≡ Open)
-    × (ending 1 (success (probe 7) ∷ failure (probe 7) ∷ []) ≡ Closed)
-    × (ending 1 (failure (probe 7) ∷ success (probe 7) ∷ []) ≡ Open)
+    (finalState 2 (success (probe 7) ∷ failure (probe 7) ∷ []) ≡ Open)
+    × (finalState 2 (failure (probe 7) ∷ success (probe 7) ∷ []) ≡ Open)
+    × (finalState 1 (success (probe 7) ∷ failure (probe 7) ∷ []) ≡ Closed)
+    × (finalState 1 (failure (probe 7) ∷ success (probe 7) ∷ []) ≡ Open)
 
 -- ---- waiting
 

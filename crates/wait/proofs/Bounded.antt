@@ -12,14 +12,14 @@ use Rattle.wait.specs.declared.Move.{Move}
 use Rattle.wait.specs.declared.Move.the-variants.{Goes, Ends}
 use Rattle.wait.specs.declared.Ran.the-variants as Ran·is
 use Rattle.wait.specs.declared.Running.{Running}
-use Rattle.wait.specs.Turns.{endedWait, isHolding, isTime, newWait, turnInBounds, waitInBounds, remaining, exceeds, usedUp, withZeros, naps, retriesZero, retries}
+use Rattle.wait.specs.Turns.{endedWait, isHolding, timeInBounds, newWait, turnInBounds, waitInBounds, remaining, exceeds, usedUp, withZeros, naps, retriesZero, retries}
 use Rattle.wait.specs.Manner.{Manner, inOrder}
-use Rattle.wait.specs.Run.{running, onward, steps}
+use Rattle.wait.specs.Run.{ranAs, onward, steps}
 use Rattle.wait.specs.Keep.{postponed, napOf, checks, grants, moves, keep}
 use Rattle.wait.proofs.Limits.{time-le, times, bounded, →bounded}
 use Rattle.wait.proofs.Steps.{grant-bounded}
 
-pub new-kept : (clock : ℕ) (limited : Bool) (timeout : ℕ) → isTime clock ≡ true → isTime timeout ≡ true → waitInBounds (newWait clock limited timeout) ≡ true
+pub new-kept : (clock : ℕ) (limited : Bool) (timeout : ℕ) → timeInBounds clock ≡ true → timeInBounds timeout ≡ true → waitInBounds (newWait clock limited timeout) ≡ true
 new-kept clock true timeout a b =
     →bounded _ (record { deadline = omega (arith, time-le clock a, time-le timeout b); seen = omega arith; due = omega arith })
 new-kept clock false timeout a b = →bounded _ (record { deadline = omega arith; seen = omega arith; due = omega arith })
@@ -89,7 +89,7 @@ onward-bounded (Goes act v) more h b = h v b
 onward-bounded (Ends e) more h b = ended-bounded
 
 refused-bounded : (x b o : Bool) (w : Wait) (r : Running) → waitInBounds w ≡ true → (o ≡ true → waitInBounds (r .wait) ≡ true)
-    → waitInBounds (inOrder x (not (b && o)) (λ z. running (Ran·is.Refused z) 0 w) r .wait) ≡ true
+    → waitInBounds (inOrder x (not (b && o)) (λ z. ranAs (Ran·is.Refused z) 0 w) r .wait) ≡ true
 refused-bounded true b o w r ok h = ok
 refused-bounded false true true w r ok h = h refl
 refused-bounded false true false w r ok h = ok

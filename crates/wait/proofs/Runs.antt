@@ -16,17 +16,17 @@ use Rattle.wait.specs.declared.Ran.{Ran}
 use Rattle.wait.specs.declared.Ran.the-variants as Ran·is
 use Rattle.wait.specs.declared.Running.{Running}
 use Rattle.wait.specs.Turns.{turnInBounds, waitInBounds}
-use Rattle.wait.specs.Manner.{Manner, inOrder, tested, turning, leaves, turned}
-use Rattle.wait.specs.Run.{running, counted, onward, standing, steps}
+use Rattle.wait.specs.Manner.{Manner, inOrder, tested, turnedAs, leaves, turned}
+use Rattle.wait.specs.Run.{ranAs, oneStepMore, onward, standing, steps}
 use Rattle.wait.proofs.Walks.{in-order, counting}
 
 -- ---- one by one
 
 -- a turn's result, and the run of the turns after it
 abbrev pub taking : Turned → Wait → (Wait → Running) → Running
-taking (Turned·is.Next act) w more = counted (more w)
-taking (Turned·is.Ends e) w more = running (Ran·is.Ends e) 1 w
-taking (Turned·is.Refused r) w more = running (Ran·is.Refused r) 0 w
+taking (Turned·is.Next act) w more = oneStepMore (more w)
+taking (Turned·is.Ends e) w more = ranAs (Ran·is.Ends e) 1 w
+taking (Turned·is.Refused r) w more = ranAs (Ran·is.Refused r) 0 w
 
 abbrev taken : Turning → (Wait → Running) → Running
 taken x more = taking (x .answer) (x .wait) more
@@ -42,15 +42,15 @@ isUnfinished (Ran·is.Refused r) = false
 
 -- a run that stopped unfinished after n turns with the wait v
 abbrev Stopped : Running → ℕ → Wait → Type 0
-Stopped r n v = r ≡ running Ran·is.Unfinished n v
+Stopped r n v = r ≡ ranAs Ran·is.Unfinished n v
 
 module _ (m : Manner) where
   -- the first turn of a run is the turn by itself
   pub by-turns : (t : Observed) (ts : List Observed) (w : Wait) → steps m (t ∷ ts) w ≡ taking (turned m w t .answer) (turned m w t .wait) (λ v. steps m ts v)
   unfolding steps turned
   by-turns t ts w =
-      ap (λ (x : Running). tested m (λ r. running (Ran·is.Refused r) 0 w) x w t) (sym (leaves-onward (m .moves w t) (λ v. steps m ts v)))
-      ∙ sym (in-order (λ (x : Turning). taken x (λ v. steps m ts v)) (λ r. turning (Turned·is.Refused r) w) (leaves (m .moves w t)) (m .ended w || not (m .knows (t .kind))) (not (waitInBounds w && turnInBounds t)))
+      ap (λ (x : Running). tested m (λ r. ranAs (Ran·is.Refused r) 0 w) x w t) (sym (leaves-onward (m .moves w t) (λ v. steps m ts v)))
+      ∙ sym (in-order (λ (x : Turning). taken x (λ v. steps m ts v)) (λ r. turnedAs (Turned·is.Refused r) w) (leaves (m .moves w t)) (m .ended w || not (m .knows (t .kind))) (not (waitInBounds w && turnInBounds t)))
 
   -- ---- a run that is not ended, and then another, is one run
 
@@ -63,8 +63,8 @@ module _ (m : Manner) where
       let answer = ap (λ (r : Running). r .answer) e in
       let count = ap (λ (r : Running). r .taken) e in
       let wait = ap (λ (r : Running). r .wait) e in
-      let rest = ih w (first .taken) (ap (λ (x : Ran). running x (first .taken) (first .wait)) answer ∙ ap (running Ran·is.Unfinished (first .taken)) wait) in
-      ap counted rest ∙ ap (λ (k : ℕ). running (later .answer) k (later .wait)) (omega (arith, count))
+      let rest = ih w (first .taken) (ap (λ (x : Ran). ranAs x (first .taken) (first .wait)) answer ∙ ap (ranAs Ran·is.Unfinished (first .taken)) wait) in
+      ap oneStepMore rest ∙ ap (λ (k : ℕ). ranAs (later .answer) k (later .wait)) (omega (arith, count))
   join-one (Turned·is.Ends x) w ts us n v ih e = absurd (false≢true (ap (λ (r : Running). isUnfinished (r .answer)) e))
   join-one (Turned·is.Refused r) w ts us n v ih e = absurd (false≢true (ap (λ (r : Running). isUnfinished (r .answer)) e))
 
@@ -72,7 +72,7 @@ module _ (m : Manner) where
   unfolding steps
   nothing-first us w n v e =
       let later = steps m us v in
-      ap (steps m us) (ap (λ (r : Running). r .wait) e) ∙ ap (λ (k : ℕ). running (later .answer) k (later .wait)) (omega (arith, ap (λ (r : Running). r .taken) e))
+      ap (steps m us) (ap (λ (r : Running). r .wait) e) ∙ ap (λ (k : ℕ). ranAs (later .answer) k (later .wait)) (omega (arith, ap (λ (r : Running). r .taken) e))
 
   pub two-runs : (ts us : List Observed) (w : Wait) (n : ℕ) (v : Wait) → Stopped (steps m ts w) n v → steps m (ts ++ us) w ≡ counting n (steps m us v)
   two-runs [] us w n v e = nothing-first us w n v e
@@ -92,8 +92,8 @@ stands-alone false true e = (refl, refl)
 stands-alone false false e = absurd (false≢true e)
 
 -- a refused turn is no unfinished run
-not-refused : (P : Running → Type 0) (x y : Bool) (w : Wait) (r : Running) → isUnfinished (inOrder x y (λ z. running (Ran·is.Refused z) 0 w) r .answer) ≡ true
-    → (isUnfinished (r .answer) ≡ true → P r) → P (inOrder x y (λ z. running (Ran·is.Refused z) 0 w) r)
+not-refused : (P : Running → Type 0) (x y : Bool) (w : Wait) (r : Running) → isUnfinished (inOrder x y (λ z. ranAs (Ran·is.Refused z) 0 w) r .answer) ≡ true
+    → (isUnfinished (r .answer) ≡ true → P r) → P (inOrder x y (λ z. ranAs (Ran·is.Refused z) 0 w) r)
 not-refused P true y w r e h = absurd (false≢true e)
 not-refused P false true w r e h = absurd (false≢true e)
 not-refused P false false w r e h = h e

@@ -11,34 +11,34 @@ use Rattle.wait.specs.declared.Ending.the-variants.{Done, Deadline}
 use Rattle.wait.specs.declared.Move.the-variants.{Goes, Ends}
 use Rattle.wait.proofs.Limits.{times, bounded, →bounded}
 use Rattle.wait.specs.Budget.{budget}
-use Rattle.wait.specs.Turns.{turnInBounds, waitInBounds, Budget, unlimited, left, remaining, exceeds, usedUp, smaller, withZeros, sleeping, naps, retriesZero, retries}
+use Rattle.wait.specs.Turns.{turnInBounds, waitInBounds, Budget, unlimited, atMost, remaining, exceeds, usedUp, smaller, withZeros, sleeping, naps, retriesZero, retries}
 use Rattle.wait.specs.Keep.{holding, postponed, napOf, holdsOn, checks, grants}
 
 -- ---- a budget as a number
 
 pub used-up : (b : Budget) → budget b ≡ 0 → usedUp b ≡ true
 used-up unlimited e = absurd (omega (arith, e))
-used-up (left r) e = eq-eqb r 0 e
+used-up (atMost r) e = eq-eqb r 0 e
 
 pub not-used-up : (b : Budget) → (budget b ≡ 0 → ⊥) → usedUp b ≡ false
 not-used-up unlimited n = refl
-not-used-up (left r) n = ne-eqb r 0 n
+not-used-up (atMost r) n = ne-eqb r 0 n
 
 pub is-over : (b : Budget) (n : ℕ) → n ≤ 2 ^ 64 - 1 → budget b < n → exceeds n b ≡ true
 is-over unlimited n f l = absurd (omega (arith, f, l))
-is-over (left r) n f l = lt-ltb r n l
+is-over (atMost r) n f l = lt-ltb r n l
 
 pub not-over : (b : Budget) (n : ℕ) → n ≤ budget b → exceeds n b ≡ false
 not-over unlimited n l = refl
-not-over (left r) n l = le-ltb r n l
+not-over (atMost r) n l = le-ltb r n l
 
 smaller-left : (b : Budget) (n : ℕ) → n ≤ 2 ^ 64 - 1 → budget b < n → smaller n b ≡ budget b
 smaller-left unlimited n f l = absurd (omega (arith, f, l))
-smaller-left (left r) n f l = omega (arith, l)
+smaller-left (atMost r) n f l = omega (arith, l)
 
 smaller-itself : (b : Budget) (n : ℕ) → n ≤ budget b → smaller n b ≡ n
 smaller-itself unlimited n l = refl
-smaller-itself (left r) n l = omega (arith, l)
+smaller-itself (atMost r) n l = omega (arith, l)
 
 -- ---- retries
 

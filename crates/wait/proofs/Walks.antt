@@ -14,8 +14,8 @@ use Rattle.wait.specs.declared.Wait.{Wait}
 use Rattle.wait.specs.declared.Observed.{Observed}
 use Rattle.wait.specs.declared.Act.{Act}
 use Rattle.wait.specs.declared.Ending.{Ending}
-use Rattle.wait.specs.declared.Tested.{Tested}
-use Rattle.wait.specs.declared.Tested.the-variants.{Passes, Fails}
+use Rattle.wait.specs.declared.TurnTest.{TurnTest}
+use Rattle.wait.specs.declared.TurnTest.the-variants.{Passes, Fails}
 use Rattle.wait.specs.declared.Move.{Move}
 use Rattle.wait.specs.declared.Move.the-variants.{Goes, Ends}
 use Rattle.wait.specs.declared.Turned.the-variants as Turned·is
@@ -25,8 +25,8 @@ use Rattle.wait.specs.declared.Running.{Running}
 use Rattle.wait.specs.declared.Dropped.the-variants as Dropped·is
 use Rattle.wait.specs.declared.Dropping.{Dropping}
 use Rattle.wait.specs.Turns.{endedWait, turnInBounds, waitInBounds}
-use Rattle.wait.specs.Manner.{Manner, inOrder, tested, turning, leaves, turned, dropping, dropped}
-use Rattle.wait.specs.Run.{running, standing, steps, turnOf, turnsOf, runs}
+use Rattle.wait.specs.Manner.{Manner, inOrder, tested, turnedAs, leaves, turned, droppedAs, dropped}
+use Rattle.wait.specs.Run.{ranAs, standing, steps, turnOf, turnsOf, runs}
 
 -- ---- the tests of a turn
 
@@ -37,11 +37,11 @@ in-order h f a false true = refl
 in-order h f a false false = refl
 
 -- what a verdict comes to
-abbrev by : {A : Type 0} → (Refusal → A) → A → Tested → A
+abbrev by : {A : Type 0} → (Refusal → A) → A → TurnTest → A
 by f a Passes = a
 by f a (Fails r) = f r
 
-abbrev passed : Tested → Bool
+abbrev passed : TurnTest → Bool
 passed Passes = true
 passed (Fails r) = false
 
@@ -52,7 +52,7 @@ in-bounds false false e = absurd (false≢true (sym (ap passed e)))
 
 module _ (m : Manner) (w : Wait) (t : Observed) where
   -- a verdict is what the tests come to
-  by-verdict : {A : Type 0} (f : Refusal → A) (a : A) (v : Tested) → v ≡ tested m Fails Passes w t → by f a v ≡ tested m f a w t
+  by-verdict : {A : Type 0} (f : Refusal → A) (a : A) (v : TurnTest) → v ≡ tested m Fails Passes w t → by f a v ≡ tested m f a w t
   by-verdict f a v e = ap (by f a) e ∙ in-order (by f a) Fails Passes (m .ended w || not (m .knows (t .kind))) (not (waitInBounds w && turnInBounds t))
 
   -- a turn that passes its tests is within its bounds
@@ -63,19 +63,19 @@ module _ (m : Manner) (w : Wait) (t : Observed) where
 
   -- ---- one turn
 
-  pub turn-refused : (r : Refusal) → Fails r ≡ tested m Fails Passes w t → turning (Turned·is.Refused r) w ≡ turned m w t
+  pub turn-refused : (r : Refusal) → Fails r ≡ tested m Fails Passes w t → turnedAs (Turned·is.Refused r) w ≡ turned m w t
   unfolding turned
-  turn-refused r e = by-verdict (λ r. turning (Turned·is.Refused r) w) (leaves (m .moves w t)) (Fails r) e
+  turn-refused r e = by-verdict (λ r. turnedAs (Turned·is.Refused r) w) (leaves (m .moves w t)) (Fails r) e
 
   pub turn-passed : (x : Move) → Passes ≡ tested m Fails Passes w t → x ≡ m .moves w t → leaves x ≡ turned m w t
   unfolding turned
-  turn-passed x p e = ap leaves e ∙ by-verdict (λ r. turning (Turned·is.Refused r) w) (leaves (m .moves w t)) Passes p
+  turn-passed x p e = ap leaves e ∙ by-verdict (λ r. turnedAs (Turned·is.Refused r) w) (leaves (m .moves w t)) Passes p
 
 -- ---- the turns that lie ahead
 
 -- what is left of a run, n turns on
 abbrev pub counting : ℕ → Running → Running
-counting n r = running (r .answer) (n + r .taken) (r .wait)
+counting n r = ranAs (r .answer) (n + r .taken) (r .wait)
 
 -- the turns that the limit allows of what lies ahead
 abbrev pub ahead : ℕ → List ℕ → List Observed
@@ -119,28 +119,28 @@ module _ (m : Manner) where
   unfolding standing
   stands w ended a e q = q ∙ rw e
 
-  pub stops-here : (n : ℕ) (ts : List Observed) (w : Wait) → ts ≡ [] → counting n (steps m ts w) ≡ running (standing m w) n w
+  pub stops-here : (n : ℕ) (ts : List Observed) (w : Wait) → ts ≡ [] → counting n (steps m ts w) ≡ ranAs (standing m w) n w
   unfolding steps
-  stops-here n ts w e = rw e (ap (λ (k : ℕ). running (standing m w) k w) (omega arith))
+  stops-here n ts w e = rw e (ap (λ (k : ℕ). ranAs (standing m w) k w) (omega arith))
 
   module _ (n : ℕ) (w : Wait) (t : Observed) (ts : List Observed) where
-    pub step-refused : (r : Refusal) → Fails r ≡ tested m Fails Passes w t → counting n (steps m (t ∷ ts) w) ≡ running (Ran·is.Refused r) n w
+    pub step-refused : (r : Refusal) → Fails r ≡ tested m Fails Passes w t → counting n (steps m (t ∷ ts) w) ≡ ranAs (Ran·is.Refused r) n w
     unfolding steps
     step-refused r e =
-        ap (counting n) (sym (by-verdict m w t (λ r. running (Ran·is.Refused r) 0 w) _ (Fails r) e)) ∙ ap (λ (k : ℕ). running (Ran·is.Refused r) k w) (omega arith)
+        ap (counting n) (sym (by-verdict m w t (λ r. ranAs (Ran·is.Refused r) 0 w) _ (Fails r) e)) ∙ ap (λ (k : ℕ). ranAs (Ran·is.Refused r) k w) (omega arith)
 
     pub step-goes : (act : Act) (next : Wait) → Passes ≡ tested m Fails Passes w t → Goes act next ≡ m .moves w t
         → counting n (steps m (t ∷ ts) w) ≡ counting (n + 1) (steps m ts next)
     unfolding steps
     step-goes act next p e =
         let more = steps m ts next in
-        ap (counting n) (sym (by-verdict m w t (λ r. running (Ran·is.Refused r) 0 w) _ Passes p)) ∙ rw (← e) (ap (λ (k : ℕ). running (more .answer) k (more .wait)) (omega arith))
+        ap (counting n) (sym (by-verdict m w t (λ r. ranAs (Ran·is.Refused r) 0 w) _ Passes p)) ∙ rw (← e) (ap (λ (k : ℕ). ranAs (more .answer) k (more .wait)) (omega arith))
 
-    pub step-ends : (e : Ending) → Passes ≡ tested m Fails Passes w t → Ends e ≡ m .moves w t → counting n (steps m (t ∷ ts) w) ≡ running (Ran·is.Ends e) (n + 1) endedWait
+    pub step-ends : (e : Ending) → Passes ≡ tested m Fails Passes w t → Ends e ≡ m .moves w t → counting n (steps m (t ∷ ts) w) ≡ ranAs (Ran·is.Ends e) (n + 1) endedWait
     unfolding steps
-    step-ends e p q = ap (counting n) (sym (by-verdict m w t (λ r. running (Ran·is.Refused r) 0 w) _ Passes p)) ∙ rw (← q) refl
+    step-ends e p q = ap (counting n) (sym (by-verdict m w t (λ r. ranAs (Ran·is.Refused r) 0 w) _ Passes p)) ∙ rw (← q) refl
 
-  pub run-storage : (w : Wait) (xs : List ℕ) (limit : ℕ) → (length xs % 8 ≡ 0 → ⊥) → running (Ran·is.Refused Refusal·is.Storage) 0 w ≡ runs m w xs limit
+  pub run-storage : (w : Wait) (xs : List ℕ) (limit : ℕ) → (length xs % 8 ≡ 0 → ⊥) → ranAs (Ran·is.Refused Refusal·is.Storage) 0 w ≡ runs m w xs limit
   unfolding runs
   run-storage w xs limit n = simp (ne-eqb _ _ n)
 
@@ -149,7 +149,7 @@ module _ (m : Manner) where
   run-starts w xs limit e =
       let all : Running = steps m (ahead limit xs) w in
       let k : limit - 0 ≡ limit = omega arith in
-      rw (k, eq-eqb _ _ e) (ap (λ (k : ℕ). running (all .answer) k (all .wait)) (omega arith))
+      rw (k, eq-eqb _ _ e) (ap (λ (k : ℕ). ranAs (all .answer) k (all .wait)) (omega arith))
 
 -- ---- the loop: s is the buffer, at the place reached
 
@@ -171,10 +171,10 @@ module _ (s : List ℕ) (limit at taken : ℕ) where
   next-less l = omega (arith, l, length-drop at s, length-drop (at + 8) s)
 
 module _ (m : Manner) (s : List ℕ) (limit at taken : ℕ) (w : Wait) where
-  pub at-limit : limit ≤ taken → counting taken (steps m (ahead (limit - taken) (drop at s)) w) ≡ running (standing m w) taken w
+  pub at-limit : limit ≤ taken → counting taken (steps m (ahead (limit - taken) (drop at s)) w) ≡ ranAs (standing m w) taken w
   at-limit l = stops-here m taken _ w (limit-reached (drop at s) (limit - taken) (omega (arith, l)))
 
-  pub at-end : length s ≤ at → counting taken (steps m (ahead (limit - taken) (drop at s)) w) ≡ running (standing m w) taken w
+  pub at-end : length s ≤ at → counting taken (steps m (ahead (limit - taken) (drop at s)) w) ≡ ranAs (standing m w) taken w
   at-end l = stops-here m taken _ w (none-ahead (limit - taken) (drop at s) (omega (arith, l, length-drop at s)))
 
   -- a turn v that was read there, in a run that comes to `all`
@@ -183,10 +183,10 @@ module _ (m : Manner) (s : List ℕ) (limit at taken : ℕ) (w : Wait) where
     there : counting taken (steps m (v ∷ ahead (limit - (taken + 1)) (drop (at + 8) s)) w) ≡ all
     there = ap (λ (x : Observed). counting taken (steps m (x ∷ ahead (limit - (taken + 1)) (drop (at + 8) s)) w)) is ∙ ap (λ (ts : List Observed). counting taken (steps m ts w)) (sym (next-turn s limit at taken d l lt)) ∙ so
 
-    pub run-refused : (r : Refusal) → Fails r ≡ tested m Fails Passes w v → running (Ran·is.Refused r) taken w ≡ all
+    pub run-refused : (r : Refusal) → Fails r ≡ tested m Fails Passes w v → ranAs (Ran·is.Refused r) taken w ≡ all
     run-refused r e = sym (step-refused m taken w v _ r e) ∙ there
 
-    pub run-ends : (e : Ending) → Passes ≡ tested m Fails Passes w v → Ends e ≡ m .moves w v → running (Ran·is.Ends e) (taken + 1) endedWait ≡ all
+    pub run-ends : (e : Ending) → Passes ≡ tested m Fails Passes w v → Ends e ≡ m .moves w v → ranAs (Ran·is.Ends e) (taken + 1) endedWait ≡ all
     run-ends e p q = sym (step-ends m taken w v _ e p q) ∙ there
 
     pub run-goes : (act : Act) (next : Wait) → Passes ≡ tested m Fails Passes w v → Goes act next ≡ m .moves w v

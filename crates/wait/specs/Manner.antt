@@ -42,34 +42,34 @@ testedAlone m refusal answer w = inOrder (m .ended w) (not (waitInBounds w)) ref
 
 -- ---- a turn. One that is refused leaves the wait.
 
-abbrev pub turning : Turned → Wait → Turning
-turning answer w = record { answer = answer; wait = w }
+abbrev pub turnedAs : Turned → Wait → Turning
+turnedAs answer w = record { answer = answer; wait = w }
 
 abbrev pub leaves : Move → Turning
-leaves (Goes act w) = turning (Turned·is.Next act) w
-leaves (Ends e) = turning (Turned·is.Ends e) endedWait
+leaves (Goes act w) = turnedAs (Turned·is.Next act) w
+leaves (Ends e) = turnedAs (Turned·is.Ends e) endedWait
 
 unfoldable pub turned : Manner → Wait → Observed → Turning
-turned m w t = tested m (λ r. turning (Turned·is.Refused r) w) (leaves (m .moves w t)) w t
+turned m w t = tested m (λ r. turnedAs (Turned·is.Refused r) w) (leaves (m .moves w t)) w t
 
 -- what a call on a wait leaves: what was told, and the wait
-pub record After : Type 0 where
+pub record WaitAfter : Type 0 where
   pub told : Told
   pub wait : Wait
 
-abbrev pub after : Told → Wait → After
-after t w = record { told = t; wait = w }
+abbrev pub waitAfter : Told → Wait → WaitAfter
+waitAfter t w = record { told = t; wait = w }
 
-abbrev pub tellTurn : Turning → After
-tellTurn r = after (turnedTold (r .answer)) (r .wait)
+abbrev pub tellTurn : Turning → WaitAfter
+tellTurn r = waitAfter (turnedTold (r .answer)) (r .wait)
 
 -- ---- "a dropped wait gives back a held grant"
 
-abbrev pub dropping : Dropped → Wait → Dropping
-dropping answer w = record { answer = answer; wait = w }
+abbrev pub droppedAs : Dropped → Wait → Dropping
+droppedAs answer w = record { answer = answer; wait = w }
 
 unfoldable pub dropped : Manner → Wait → Dropping
-dropped m w = testedAlone m (λ r. dropping (Dropped·is.Refused r) w) (dropping (Dropped·is.GiveBack (bit (m .holds w))) endedWait) w
+dropped m w = testedAlone m (λ r. droppedAs (Dropped·is.Refused r) w) (droppedAs (Dropped·is.GiveBack (bit (m .holds w))) endedWait) w
 
-abbrev pub tellDrop : Dropping → After
-tellDrop r = after (droppedTold (r .answer)) (r .wait)
+abbrev pub tellDrop : Dropping → WaitAfter
+tellDrop r = waitAfter (droppedTold (r .answer)) (r .wait)

@@ -19,12 +19,12 @@ use Rattle.wait.specs.Turns.{endedWait}
 use Rattle.wait.specs.Manner.{Manner, tested, testedAlone}
 
 -- what a run comes to: its answer, the turns that it took, and the wait reached
-abbrev pub running : Ran → ℕ → Wait → Running
-running answer taken w = record { answer = answer; taken = taken; wait = w }
+abbrev pub ranAs : Ran → ℕ → Wait → Running
+ranAs answer taken w = record { answer = answer; taken = taken; wait = w }
 
 -- one step more
-abbrev pub counted : Running → Running
-counted r = running (r .answer) (suc (r .taken)) (r .wait)
+abbrev pub oneStepMore : Running → Running
+oneStepMore r = ranAs (r .answer) (suc (r .taken)) (r .wait)
 
 -- ---- the steps. A refused turn isn't counted.
 
@@ -33,12 +33,12 @@ unfoldable pub standing : Manner → Wait → Ran
 standing m w = testedAlone m Ran·is.Refused Ran·is.Unfinished w
 
 abbrev pub onward : Move → (Wait → Running) → Running
-onward (Goes act w) more = counted (more w)
-onward (Ends e) more = running (Ran·is.Ends e) 1 endedWait
+onward (Goes act w) more = oneStepMore (more w)
+onward (Ends e) more = ranAs (Ran·is.Ends e) 1 endedWait
 
 unfoldable pub steps : Manner → List Observed → Wait → Running
-steps m [] w = running (standing m w) 0 w
-steps m (t ∷ ts) w = tested m (λ r. running (Ran·is.Refused r) 0 w) (onward (m .moves w t) (λ next. steps m ts next)) w t
+steps m [] w = ranAs (standing m w) 0 w
+steps m (t ∷ ts) w = tested m (λ r. ranAs (Ran·is.Refused r) 0 w) (onward (m .moves w t) (λ next. steps m ts next)) w t
 
 -- ---- the entry point: "turns not a multiple of 8" is 3; then as many turns as the limit says
 
@@ -68,13 +68,13 @@ turnsOf (suc k) xs = turnOf xs ∷ turnsOf k (drop 8 xs)
 unfoldable pub runs : Manner → Wait → List ℕ → ℕ → Running
 runs m w xs limit =
     if wholeTurns xs then steps m (take limit (turnsOf (length xs / 8) xs)) w
-    else running (Ran·is.Refused Refusal·is.Storage) 0 w
+    else ranAs (Ran·is.Refused Refusal·is.Storage) 0 w
 
 -- "turns taken, wait reached" beside what was told
-pub record Report : Type 0 where
+pub record RunAfter : Type 0 where
   pub told : Told
   pub taken : ℕ
   pub wait : Wait
 
-abbrev pub tellRun : Running → Report
+abbrev pub tellRun : Running → RunAfter
 tellRun r = record { told = ranTold (r .answer); taken = r .taken; wait = r .wait }

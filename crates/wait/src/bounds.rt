@@ -1,41 +1,43 @@
 // The bounds of times, waits and turns: number 1.
 ghost use mathlib.Core.Path.{_≡_};
-ghost use Rattle.wait.specs.Turns.{isTime, turnInBounds, waitInBounds};
+ghost use Rattle.wait.specs.Turns.{timeInBounds, turnInBounds, waitInBounds};
+use crate::LATEST;
+use crate::LONGEST;
 use crate::Observed;
 use crate::Wait;
 
-pub(crate) fn is_time(ns: u64) -> bool
-    ensures { λ r. ⌜ r ≡ isTime ns ⌝ }
+pub(crate) fn time_in_bounds(ns: u64) -> bool
+    ensures { λ r. ⌜ r ≡ timeInBounds ns ⌝ }
 {
-    ns <= 0x4000_0000_0000_0000
+    ns <= LONGEST
 }
 
 pub(crate) fn wait_in_bounds(wait: Wait) -> bool
     ensures { λ r. ⌜ r ≡ waitInBounds wait ⌝ }
 {
-    if wait.deadline > 0x8000_0000_0000_0000 {
+    if wait.deadline > LATEST {
         return false;
     }
-    if !is_time(wait.seen) {
+    if !time_in_bounds(wait.seen) {
         return false;
     }
-    wait.due <= 0x8000_0000_0000_0000 + wait.seen
+    wait.due <= LATEST + wait.seen
 }
 
 pub(crate) fn turn_in_bounds(turn: Observed) -> bool
     ensures { λ r. ⌜ r ≡ turnInBounds turn ⌝ }
 {
-    if !is_time(turn.clock) {
+    if !time_in_bounds(turn.clock) {
         return false;
     }
-    if !is_time(turn.duration) {
+    if !time_in_bounds(turn.duration) {
         return false;
     }
-    if !is_time(turn.pause) {
+    if !time_in_bounds(turn.pause) {
         return false;
     }
-    if !is_time(turn.postponed_before) {
+    if !time_in_bounds(turn.postponed_before) {
         return false;
     }
-    is_time(turn.postponed_after)
+    time_in_bounds(turn.postponed_after)
 }

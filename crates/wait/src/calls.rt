@@ -7,16 +7,18 @@ ghost use Rattle.wait.specs.Run.{runs, tellRun};
 ghost use Rattle.wait.specs.Turns as Turns;
 ghost use Rattle.wait.specs.Turns.{started};
 use crate::Dropping;
+use crate::LOOKING;
 use crate::Move;
 use crate::Observed;
 use crate::Ran;
 use crate::Running;
 use crate::Started;
-use crate::Tested;
+use crate::TURN_WIDTH;
+use crate::TurnTest;
 use crate::Turned;
 use crate::Turning;
 use crate::Wait;
-use crate::bounds::is_time;
+use crate::bounds::time_in_bounds;
 use crate::keep::has_ended;
 use crate::keep::is_holding;
 use crate::keep::moves;
@@ -32,7 +34,7 @@ fn looking(limited: u64, deadline: u64) -> Wait
     ensures { λ r. ⌜ r ≡ Turns.looking limited deadline ⌝ }
 {
     Wait {
-        phase: 1,
+        phase: LOOKING,
         limited,
         deadline,
         seen: 0,
@@ -46,10 +48,10 @@ fn looking(limited: u64, deadline: u64) -> Wait
 pub fn start(clock: u64, limited: bool, timeout: u64) -> Started
     ensures { λ r. ⌜ startedTold r ≡ startedTold (started clock limited timeout) ⌝ }
 {
-    if !is_time(clock) {
+    if !time_in_bounds(clock) {
         return Started::Refused(Refusal::Time);
     }
-    if !is_time(timeout) {
+    if !time_in_bounds(timeout) {
         return Started::Refused(Refusal::Time);
     }
     if !limited {
@@ -64,7 +66,7 @@ pub fn turn(wait: Wait, turn: Observed) -> Turning
     ensures { λ r. ⌜ tellTurn r ≡ tellTurn (turned keep wait turn) ⌝ }
 {
     let verdict = test(wait, turn);
-    if let Tested::Fails(r) = verdict {
+    if let TurnTest::Fails(r) = verdict {
         return Turning {
             answer: Turned::Refused(r),
             wait,
@@ -88,7 +90,7 @@ pub fn turn(wait: Wait, turn: Observed) -> Turning
 pub fn run(wait: Wait, turns: &[u64], limit: u64) -> Running
     ensures { λ r. ⌜ tellRun r ≡ tellRun (runs keep wait (now (turns .entry)) limit) ⌝ }
 {
-    if turns.len() % 8 != 0 {
+    if turns.len() % TURN_WIDTH != 0 {
         return Running {
             answer: Ran::Refused(Refusal::Storage),
             taken: 0,
@@ -108,7 +110,7 @@ pub fn run(wait: Wait, turns: &[u64], limit: u64) -> Running
         }
         let turn = turn_at(turns, at);
         let verdict = test(reached, turn);
-        if let Tested::Fails(r) = verdict {
+        if let TurnTest::Fails(r) = verdict {
             return Running {
                 answer: Ran::Refused(r),
                 taken,
@@ -128,7 +130,7 @@ pub fn run(wait: Wait, turns: &[u64], limit: u64) -> Running
                 };
             }
         }
-        at += 8;
+        at += TURN_WIDTH;
         taken += 1;
     }
     Running {

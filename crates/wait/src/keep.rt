@@ -5,12 +5,17 @@ ghost use Rattle.wait.specs.Keep as Keep;
 ghost use Rattle.wait.specs.Keep.{checks, grants, hasEnded, holdsOn, isKnown, keep};
 ghost use Rattle.wait.specs.Manner.{tested};
 ghost use Rattle.wait.specs.Turns.{isHolding, turnInBounds, waitInBounds};
-ghost use Rattle.wait.specs.declared.Tested.the-variants.{Passes, Fails};
+ghost use Rattle.wait.specs.declared.TurnTest.the-variants.{Passes, Fails};
 use crate::Act;
 use crate::Ending;
+use crate::GRANTED;
+use crate::HOLDING;
+use crate::LOOKING;
 use crate::Move;
+use crate::NEVER;
 use crate::Observed;
-use crate::Tested;
+use crate::RETRY;
+use crate::TurnTest;
 use crate::Wait;
 use crate::manner::in_order;
 use crate::retries::remaining;
@@ -20,13 +25,13 @@ use crate::retries::sleeping;
 pub(crate) fn is_holding(wait: Wait) -> bool
     ensures { λ r. ⌜ r ≡ isHolding wait ⌝ }
 {
-    wait.phase == 2
+    wait.phase == HOLDING
 }
 
 pub(crate) fn has_ended(wait: Wait) -> bool
     ensures { λ r. ⌜ r ≡ hasEnded wait ⌝ }
 {
-    if wait.phase == 1 {
+    if wait.phase == LOOKING {
         return false;
     }
     !is_holding(wait)
@@ -35,17 +40,17 @@ pub(crate) fn has_ended(wait: Wait) -> bool
 fn is_known(kind: u64) -> bool
     ensures { λ r. ⌜ r ≡ isKnown kind ⌝ }
 {
-    if kind == 1 {
+    if kind == GRANTED {
         return true;
     }
-    if kind == 2 {
+    if kind == RETRY {
         return true;
     }
-    kind == 3
+    kind == NEVER
 }
 
 // The tests of a turn.
-pub(crate) fn test(wait: Wait, turn: Observed) -> Tested
+pub(crate) fn test(wait: Wait, turn: Observed) -> TurnTest
     ensures { λ r. ⌜ r ≡ tested keep Fails Passes wait turn ⌝ }
 {
     in_order(has_ended(wait), is_known(turn.kind), wait, turn)
@@ -55,7 +60,7 @@ fn holding(due: u64, seen: u64, wait: Wait) -> Wait
     ensures { λ r. ⌜ r ≡ Keep.holding due seen wait ⌝ }
 {
     Wait {
-        phase: 2,
+        phase: HOLDING,
         limited: wait.limited,
         deadline: wait.deadline,
         seen,
@@ -126,10 +131,10 @@ pub(crate) fn moves(wait: Wait, turn: Observed) -> Move
     if is_holding(wait) {
         return check(wait, turn);
     }
-    if turn.kind == 1 {
+    if turn.kind == GRANTED {
         return grant(wait, turn);
     }
-    if turn.kind == 2 {
+    if turn.kind == RETRY {
         return retry(wait, turn);
     }
     Move::Ends(Ending::Never)

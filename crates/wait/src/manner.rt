@@ -4,17 +4,18 @@ ghost use mathlib.Core.Bool.{not, _&&_, _||_};
 ghost use lib.ListN.{length, drop};
 ghost use Prim.Native.Nat.{_≤_, _+_};
 ghost use Rattle.error.specs.Choice.{bit};
-ghost use Rattle.wait.specs.Manner.{dropping, inOrder};
+ghost use Rattle.wait.specs.Manner.{droppedAs, inOrder};
 ghost use Rattle.wait.specs.Run.{turnOf};
 ghost use Rattle.wait.specs.Turns.{endedWait, turnInBounds, waitInBounds};
 ghost use Rattle.wait.specs.declared.Dropped.the-variants as Dropped·is;
 ghost use Rattle.wait.specs.declared.Ran.the-variants as Ran·is;
-ghost use Rattle.wait.specs.declared.Tested.the-variants.{Passes, Fails};
+ghost use Rattle.wait.specs.declared.TurnTest.the-variants.{Passes, Fails};
 use crate::Dropped;
 use crate::Dropping;
+use crate::ENDED;
 use crate::Observed;
 use crate::Ran;
-use crate::Tested;
+use crate::TurnTest;
 use crate::Wait;
 use crate::bounds::turn_in_bounds;
 use crate::bounds::wait_in_bounds;
@@ -25,7 +26,7 @@ pub(crate) fn ended_wait() -> Wait
     ensures { λ r. ⌜ r ≡ endedWait ⌝ }
 {
     Wait {
-        phase: 0,
+        phase: ENDED,
         limited: 0,
         deadline: 0,
         seen: 0,
@@ -35,22 +36,22 @@ pub(crate) fn ended_wait() -> Wait
 }
 
 // The tests of a turn, in document 01's order: 11, then 1. Whether its wait has ended and its reply is known is the manner's to say.
-pub(crate) fn in_order(ended: bool, known: bool, wait: Wait, turn: Observed) -> Tested
+pub(crate) fn in_order(ended: bool, known: bool, wait: Wait, turn: Observed) -> TurnTest
     ensures { λ r. ⌜ r ≡ inOrder (ended || not known) (not (waitInBounds wait && turnInBounds turn)) Fails Passes ⌝ }
 {
     if ended {
-        return Tested::Fails(Refusal::Turn);
+        return TurnTest::Fails(Refusal::Turn);
     }
     if !known {
-        return Tested::Fails(Refusal::Turn);
+        return TurnTest::Fails(Refusal::Turn);
     }
     if !wait_in_bounds(wait) {
-        return Tested::Fails(Refusal::Time);
+        return TurnTest::Fails(Refusal::Time);
     }
     if !turn_in_bounds(turn) {
-        return Tested::Fails(Refusal::Time);
+        return TurnTest::Fails(Refusal::Time);
     }
-    Tested::Passes
+    TurnTest::Passes
 }
 
 // The eight numbers from `at` on.
@@ -85,7 +86,7 @@ pub(crate) fn stand(ended: bool, wait: Wait) -> Ran
 
 // Ends a wait: one that holds a unit is to give it back.
 pub(crate) fn drop_as(ended: bool, holds: bool, wait: Wait) -> Dropping
-    ensures { λ r. ⌜ r ≡ inOrder ended (not (waitInBounds wait)) (λ x. dropping (Dropped·is.Refused x) wait) (dropping (Dropped·is.GiveBack (bit holds)) endedWait) ⌝ }
+    ensures { λ r. ⌜ r ≡ inOrder ended (not (waitInBounds wait)) (λ x. droppedAs (Dropped·is.Refused x) wait) (droppedAs (Dropped·is.GiveBack (bit holds)) endedWait) ⌝ }
 {
     if ended {
         return Dropping {

@@ -2,13 +2,12 @@
 ghost use mathlib.Core.Path.{_≡_};
 ghost use mathlib.Core.Bool.{true};
 ghost use Rattle.breaker.specs.Record.{settings, state, sound};
-ghost use Rattle.breaker.specs.Calls as Breaker·calls;
-ghost use Rattle.breaker.specs.Calls.{kept};
+ghost use Rattle.breaker.specs.Calls.{after, kept};
 ghost use Rattle.wait.specs.Answers.{droppedTold};
 ghost use Rattle.waiting.specs.Answers.{begunTold, completedTold, awaitedTold, courseTold};
 ghost use Rattle.waiting.specs.Rules.{completes};
 ghost use Rattle.waiting.specs.Calls as Calls;
-ghost use Rattle.waiting.specs.Calls.{after, report, starting, turning, running, leaving};
+ghost use Rattle.waiting.specs.Calls.{pendingAfter, pendingRun, starting, turning, running, leaving};
 ghost use Rattle.waiting.specs.declared.Course.the-variants.{Refused};
 use crate::Awaited;
 use crate::Awaiting;
@@ -19,8 +18,8 @@ use crate::Completion;
 use crate::Course;
 use crate::Leaving;
 use crate::Pending;
-use crate::Running;
-use crate::Waited;
+use crate::Proceeding;
+use crate::Progress;
 use breaker::Breaker;
 use breaker::Standing;
 use breaker::Tested;
@@ -36,6 +35,7 @@ use wait::Ending;
 use wait::Observed;
 use wait::Ran;
 use wait::Started;
+use wait::TURN_WIDTH;
 use wait::Turned;
 use wait::Wait;
 
@@ -58,7 +58,7 @@ pub fn start(
     limited: bool,
     timeout: u64,
 ) -> Beginning
-    ensures { λ r. ⌜ after (begunTold (r .answer)) (r .breaker) (now (list .exit)) (r .pending) ≡ starting «now_ms» clock limited timeout breaker (now (list .entry)) pending ⌝ }
+    ensures { λ r. ⌜ pendingAfter (begunTold (r .answer)) (r .breaker) (now (list .exit)) (r .pending) ≡ starting «now_ms» clock limited timeout breaker (now (list .entry)) pending ⌝ }
 {
     match test(breaker, list) {
         Tested::Refused(r) => Beginning {
@@ -98,7 +98,7 @@ fn complete(
     capacity: u32,
 ) -> Completion
     requires { ⌜ sound breaker (now list) ≡ true ⌝ }
-    ensures { λ r. ⌜ Breaker·calls.after (completedTold (r .answer)) (r .breaker) (now (list .entry)) ≡ kept (breaker .config) (completes ending «now_ms» capacity ticket (settings (breaker .config)) (state breaker (now (list .entry)))) ⌝ }
+    ensures { λ r. ⌜ after (completedTold (r .answer)) (r .breaker) (now (list .entry)) ≡ kept (breaker .config) (completes ending «now_ms» capacity ticket (settings (breaker .config)) (state breaker (now (list .entry)))) ⌝ }
 {
     match ending {
         Ending::Deadline(back) => Completion {
@@ -137,7 +137,7 @@ pub fn turn(
     now_ms: u64,
     capacity: u32,
 ) -> Awaiting
-    ensures { λ r. ⌜ after (awaitedTold (r .answer)) (r .breaker) (now (list .exit)) (r .pending) ≡ turning turn «now_ms» capacity breaker (now (list .entry)) pending ⌝ }
+    ensures { λ r. ⌜ pendingAfter (awaitedTold (r .answer)) (r .breaker) (now (list .exit)) (r .pending) ≡ turning turn «now_ms» capacity breaker (now (list .entry)) pending ⌝ }
 {
     match test(breaker, list) {
         Tested::Refused(r) => Awaiting {
@@ -185,10 +185,10 @@ pub fn run(
     limit: u64,
     now_ms: u64,
     capacity: u32,
-) -> Running
-    ensures { λ r. ⌜ report (after (courseTold (r .answer .course)) (r .breaker) (now (list .exit)) (r .pending)) (r .answer .taken) ≡ running (now (turns .entry)) limit «now_ms» capacity breaker (now (list .entry)) pending ⌝ }
+) -> Proceeding
+    ensures { λ r. ⌜ pendingRun (pendingAfter (courseTold (r .answer .course)) (r .breaker) (now (list .exit)) (r .pending)) (r .answer .taken) ≡ running (now (turns .entry)) limit «now_ms» capacity breaker (now (list .entry)) pending ⌝ }
 {
-    if turns.len() % 8 != 0 {
+    if turns.len() % TURN_WIDTH != 0 {
         return not_run(Refusal::Storage, breaker, pending);
     }
     match test(breaker, list) {
@@ -199,16 +199,16 @@ pub fn run(
             let taken = ran.taken;
             let next = with_wait(ran.wait, pending);
             match answer {
-                Ran::Unfinished => Running {
-                    answer: Waited {
+                Ran::Unfinished => Proceeding {
+                    answer: Progress {
                         course: Course::Unfinished,
                         taken,
                     },
                     breaker,
                     pending: next,
                 },
-                Ran::Refused(r) => Running {
-                    answer: Waited {
+                Ran::Refused(r) => Proceeding {
+                    answer: Progress {
                         course: Course::Refused(r),
                         taken,
                     },
@@ -219,8 +219,8 @@ pub fn run(
                     let done = complete(breaker, list, pending.ticket, ending, now_ms, capacity);
                     let told = done.answer;
                     let left = done.breaker;
-                    Running {
-                        answer: Waited {
+                    Proceeding {
+                        answer: Progress {
                             course: Course::Ends(told),
                             taken,
                         },
@@ -233,11 +233,11 @@ pub fn run(
     }
 }
 
-fn not_run(refusal: Refusal, breaker: Breaker, pending: Pending) -> Running
+fn not_run(refusal: Refusal, breaker: Breaker, pending: Pending) -> Proceeding
     ensures { λ r. ⌜ (r .answer .course ≡ Refused refusal) × (r .answer .taken ≡ 0) × (r .breaker ≡ breaker) × (r .pending ≡ pending) ⌝ }
 {
-    Running {
-        answer: Waited {
+    Proceeding {
+        answer: Progress {
             course: Course::Refused(refusal),
             taken: 0,
         },
@@ -249,7 +249,7 @@ fn not_run(refusal: Refusal, breaker: Breaker, pending: Pending) -> Running
 // Ends a wait before it has ended: the ticket is aborted, and a held grant is to be given back.
 // Ruled out: a drop that keeps the probe; one that keeps a held grant.
 pub fn drop_pending(breaker: Breaker, list: &mut [u64], pending: Pending) -> Leaving
-    ensures { λ r. ⌜ after (droppedTold (r .answer)) (r .breaker) (now (list .exit)) (r .pending) ≡ leaving breaker (now (list .entry)) pending ⌝ }
+    ensures { λ r. ⌜ pendingAfter (droppedTold (r .answer)) (r .breaker) (now (list .exit)) (r .pending) ≡ leaving breaker (now (list .entry)) pending ⌝ }
 {
     match test(breaker, list) {
         Tested::Refused(r) => Leaving {

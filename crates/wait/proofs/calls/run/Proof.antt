@@ -7,7 +7,7 @@ use lib.ListN.{length, drop, length-drop}
 use Rattle.wait.specs.declared.Ran.{Ran}
 use Rattle.wait.specs.declared.Ran.the-variants.{Ends}
 use Rattle.wait.specs.declared.Wait.{Wait}
-use Rattle.wait.specs.Run.{running, steps, runs, tellRun}
+use Rattle.wait.specs.Run.{ranAs, steps, runs, tellRun}
 use Rattle.wait.specs.Keep.{keep}
 use Rattle.wait.proofs.Walks.{counting, ahead, passes-bounds, stands, run-storage, run-starts, a-turn, next-whole, next-less, at-limit, at-end, run-refused, run-goes, run-ends}
 use Rattle.wait.proofs.calls.run.Statement.{statement}
@@ -35,7 +35,7 @@ returns-2 : tie.Need-returns-2 Inv-loop μ-loop
 returns-2 c =
     let args = c .before .before .before .before .before .before .before .args in
     let loop = c .before .before .before .before .loop in
-    ap tellRun (ap (λ (a : Ran). running a (loop .taken) (loop .reached)) (stands keep (loop .reached) _ _ (c .before .has-ended .ensures) (c .stand .ensures)) ∙ sym (at-limit keep (args .turns .now) (args .limit) (loop .at) (loop .taken) (loop .reached) (c .before .before .if2 .taken)) ∙ loop .inv .2)
+    ap tellRun (ap (λ (a : Ran). ranAs a (loop .taken) (loop .reached)) (stands keep (loop .reached) _ _ (c .before .has-ended .ensures) (c .stand .ensures)) ∙ sym (at-limit keep (args .turns .now) (args .limit) (loop .at) (loop .taken) (loop .reached) (c .before .before .if2 .taken)) ∙ loop .inv .2)
 
 turn-at-requires : tie.Need-turn-at-requires Inv-loop μ-loop
 turn-at-requires c κs =
@@ -84,7 +84,7 @@ returns-4 c =
     let if2 = c .before .before .before .before .before .before .before .before .before .if2 in
     let turn-at = c .before .before .before .before .before .before .before .before .turn-at in
     let test = c .before .before .before .before .before .before .before .test in
-    ap (λ (w : Wait). tellRun (running (Ends (c .before .before .step2 .given .0 .0)) (loop .taken + 1) w)) (c .ended-wait .ensures) ∙ ap tellRun (run-ends keep (args .turns .now) (args .limit) (loop .at) (loop .taken) (loop .reached) _ (turn-at .result) (loop .inv .0) (loop-test .taken) (if2 .left) (loop .inv .2) (turn-at .ensures) (c .before .before .step2 .given .0 .0) (sym (c .before .before .before .before .before .enum-told .given .1) ∙ test .ensures) (sym (c .before .before .step2 .given .1) ∙ c .before .before .before .before .moves .ensures))
+    ap (λ (w : Wait). tellRun (ranAs (Ends (c .before .before .step2 .given .0 .0)) (loop .taken + 1) w)) (c .ended-wait .ensures) ∙ ap tellRun (run-ends keep (args .turns .now) (args .limit) (loop .at) (loop .taken) (loop .reached) _ (turn-at .result) (loop .inv .0) (loop-test .taken) (if2 .left) (loop .inv .2) (turn-at .ensures) (c .before .before .step2 .given .0 .0) (sym (c .before .before .before .before .before .enum-told .given .1) ∙ test .ensures) (sym (c .before .before .step2 .given .1) ∙ c .before .before .before .before .moves .ensures))
 
 add-at : tie.Need-add-at Inv-loop μ-loop
 add-at c = search needs
@@ -119,7 +119,7 @@ returns-5 : tie.Need-returns-5 Inv-loop μ-loop
 returns-5 c =
     let args = c .before .before .before .before .before .before .args in
     let loop = c .before .before .before .loop in
-    ap tellRun (ap (λ (a : Ran). running a (loop .taken) (loop .reached)) (stands keep (loop .reached) _ _ (c .before .has-ended2 .ensures) (c .stand2 .ensures)) ∙ sym (at-end keep (args .turns .now) (args .limit) (loop .at) (loop .taken) (loop .reached) (c .before .before .loop-test .left)) ∙ loop .inv .2)
+    ap tellRun (ap (λ (a : Ran). ranAs a (loop .taken) (loop .reached)) (stands keep (loop .reached) _ _ (c .before .has-ended2 .ensures) (c .stand2 .ensures)) ∙ sym (at-end keep (args .turns .now) (args .limit) (loop .at) (loop .taken) (loop .reached) (c .before .before .loop-test .left)) ∙ loop .inv .2)
 
 pub run-spec : {M : Type 1} → statement M
 run-spec =

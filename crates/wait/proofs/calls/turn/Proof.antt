@@ -1,7 +1,7 @@
 -- `wait::calls::turn` meets its contract: the tests, then the step. Assumes nothing.
 use mathlib.Core.Path.{sym, ap, _∙_}
 use borrow.Author.Needs.{needs}
-use Rattle.wait.specs.Manner.{after, tellTurn}
+use Rattle.wait.specs.Manner.{waitAfter, tellTurn}
 use Rattle.wait.specs.Keep.{keep}
 use Rattle.wait.specs.declared.Move.the-variants.{Goes, Ends}
 use Rattle.wait.proofs.Walks.{passes-bounds, turn-refused, turn-passed}
@@ -46,7 +46,7 @@ returns-3 : tie.Need-returns-3
 returns-3 c =
     let args = c .before .before .before .before .before .before .before .before .args in
     let test = c .before .before .before .before .before .before .before .test in
-    ap (after _) (c .ended-wait .ensures) ∙ ap tellTurn (turn-passed keep (args .wait) (args .turn) (Ends (c .before .before .step2 .given .0 .0)) (sym (c .before .before .before .before .before .enum-told .given .1) ∙ test .ensures) (sym (c .before .before .step2 .given .1) ∙ c .before .before .before .before .moves .ensures))
+    ap (waitAfter _) (c .ended-wait .ensures) ∙ ap tellTurn (turn-passed keep (args .wait) (args .turn) (Ends (c .before .before .step2 .given .0 .0)) (sym (c .before .before .before .before .before .enum-told .given .1) ∙ test .ensures) (sym (c .before .before .step2 .given .1) ∙ c .before .before .before .before .moves .ensures))
 
 pub turn-spec : {M : Type 1} → statement M
 turn-spec =
