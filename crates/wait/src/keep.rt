@@ -56,17 +56,13 @@ pub(crate) fn test(wait: Wait, turn: Observed) -> TurnTest
     in_order(has_ended(wait), is_known(turn.kind), wait, turn)
 }
 
-fn holding(due: u64, seen: u64, wait: Wait) -> Wait
+fn holding(due: u64, seen: u64, mut wait: Wait) -> Wait
     ensures { λ r. ⌜ r ≡ Keep.holding due seen wait ⌝ }
 {
-    Wait {
-        phase: HOLDING,
-        limited: wait.limited,
-        deadline: wait.deadline,
-        seen,
-        due,
-        zeros: wait.zeros,
-    }
+    wait.phase = HOLDING;
+    wait.seen = seen;
+    wait.due = due;
+    wait
 }
 
 // The wait with what the schedule was postponed since it last saw.

@@ -40,11 +40,11 @@ use wait::Turned;
 use wait::Wait;
 
 // The pending wait with another wait and the same ticket.
-fn with_wait(wait: Wait, pending: Pending) -> Pending
+fn with_wait(wait: Wait, mut pending: Pending) -> Pending
     ensures { λ r. ⌜ r ≡ Calls.pending wait (pending .ticket) ⌝ }
 {
-    let ticket = pending.ticket;
-    Pending { wait, ticket }
+    pending.wait = wait;
+    pending
 }
 
 // Admits a call, and begins its wait for the inner limiter. The times are tested before the admission.
