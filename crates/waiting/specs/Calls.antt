@@ -1,14 +1,15 @@
 -- The entry points of a wait before a breaker: each tests 3 and 4, then what the wait itself refuses (11, then 1), and then does what the rules say. Definitions only.
 use Prim.Native.Nat.{ℕ}
 use mathlib.Core.Bool.{Bool}
-use mathlib.Core.List.{List, [], _∷_}
+use mathlib.Core.List.{List}
 use Rattle.error.specs.Choice.{if_then_else_}
-use Rattle.error.specs.Told.{Told, tell, refused}
+use Rattle.error.specs.Told.{Told, refused}
 use Rattle.error.specs.declared.Refusal.the-variants.{Storage}
 use Rattle.breaker.specs.declared.Breaker.{Breaker}
 use Rattle.breaker.specs.declared.Ticket.{Ticket}
 use Rattle.breaker.specs.Record.{settings, state}
-use Rattle.breaker.specs.Rules.{Admitted, granted, shed, admit, done, sheds}
+use Rattle.breaker.specs.Answers.{delayOf}
+use Rattle.breaker.specs.Rules.{Admitted, granted, shed, admit, outcome}
 use Rattle.breaker.specs.Calls.{After, guarded, kept}
 use Rattle.wait.specs.declared.Wait.{Wait}
 use Rattle.wait.specs.declared.Observed.{Observed}
@@ -21,12 +22,16 @@ use Rattle.wait.specs.declared.Ran.{Ran}
 use Rattle.wait.specs.declared.Ran.the-variants as Ran·is
 use Rattle.wait.specs.declared.Dropped.{Dropped}
 use Rattle.wait.specs.declared.Dropped.the-variants as Dropped·is
-use Rattle.wait.specs.Answers.{actValues}
+use Rattle.wait.specs.Answers.{droppedTold}
 use Rattle.wait.specs.Turns.{started}
 use Rattle.wait.specs.Manner.{turned, dropped}
 use Rattle.wait.specs.Run.{wholeTurns, runs}
 use Rattle.wait.specs.Keep.{keep}
 use Rattle.waiting.specs.declared.Pending.{Pending}
+use Rattle.waiting.specs.declared.Begun.the-variants as Begun·is
+use Rattle.waiting.specs.declared.Awaited.the-variants as Awaited·is
+use Rattle.waiting.specs.declared.Course.the-variants as Course·is
+use Rattle.waiting.specs.Answers.{begunTold, awaitedTold, courseTold}
 use Rattle.waiting.specs.Rules.{afterAbort, completes}
 
 -- ---- what a call leaves: what it told, the record, every place, and the wait with its ticket
@@ -50,8 +55,8 @@ beside p a = pendingAfter (a .told) (a .breaker) (a .places) p
 -- ---- start: the times are tested before the admission; shed, all is left as it was
 
 abbrev pub begins : Wait → Admitted → Breaker → List ℕ → Pending → PendingAfter
-begins w (granted t next) b s p = beside (pending w t) (kept (b .config) (done next))
-begins w (shed ms) b s p = pendingAfter (sheds ms) b s p
+begins w (granted t next) b s p = beside (pending w t) (kept (b .config) (outcome (begunTold Begun·is.Waits) next))
+begins w (shed ms) b s p = pendingAfter (begunTold (Begun·is.Shed (delayOf ms))) b s p
 
 abbrev pub startedTo : Started → ℕ → Breaker → List ℕ → Pending → PendingAfter
 startedTo (Started·is.Made w) reading b s p = begins w (admit (settings (b .config)) reading (state b s)) b s p
@@ -68,7 +73,7 @@ finishes e w reading capacity b s p =
     beside (pending w (p .ticket)) (kept (b .config) (completes e reading capacity (p .ticket) (settings (b .config)) (state b s)))
 
 abbrev pub turnedTo : Turned → Wait → ℕ → ℕ → Breaker → List ℕ → Pending → PendingAfter
-turnedTo (Turned·is.Next act) w reading capacity b s p = pendingAfter (tell 0 (actValues act)) b s (pending w (p .ticket))
+turnedTo (Turned·is.Next act) w reading capacity b s p = pendingAfter (awaitedTold (Awaited·is.Next act)) b s (pending w (p .ticket))
 turnedTo (Turned·is.Ends e) w reading capacity b s p = finishes e w reading capacity b s p
 turnedTo (Turned·is.Refused r) w reading capacity b s p = pendingAfter (refused r) b s (pending w (p .ticket))
 
@@ -88,7 +93,7 @@ pendingRun a n = record { left = a; taken = n }
 
 abbrev pub ranTo : Ran → Wait → ℕ → ℕ → Breaker → List ℕ → Pending → PendingAfter
 ranTo (Ran·is.Ends e) w reading capacity b s p = finishes e w reading capacity b s p
-ranTo Ran·is.Unfinished w reading capacity b s p = pendingAfter (tell 10 []) b s (pending w (p .ticket))
+ranTo Ran·is.Unfinished w reading capacity b s p = pendingAfter (courseTold Course·is.Unfinished) b s (pending w (p .ticket))
 ranTo (Ran·is.Refused r) w reading capacity b s p = pendingAfter (refused r) b s (pending w (p .ticket))
 
 unfoldable pub running : List ℕ → ℕ → ℕ → ℕ → Breaker → List ℕ → Pending → PendingRun
@@ -102,7 +107,7 @@ running turns limit reading capacity b s p =
 
 abbrev pub droppedTo : Dropped → Wait → Breaker → List ℕ → Pending → PendingAfter
 droppedTo (Dropped·is.GiveBack n) w b s p =
-    beside (pending w (p .ticket)) (kept (b .config) (afterAbort (tell 0 (n ∷ [])) (p .ticket) (settings (b .config)) (state b s)))
+    beside (pending w (p .ticket)) (kept (b .config) (afterAbort (droppedTold (Dropped·is.GiveBack n)) (p .ticket) (settings (b .config)) (state b s)))
 droppedTo (Dropped·is.Refused r) w b s p = pendingAfter (refused r) b s (pending w (p .ticket))
 
 unfoldable pub leaving : Breaker → List ℕ → Pending → PendingAfter
