@@ -5,19 +5,20 @@ use mathlib.Core.Path.{_≡_, refl}
 use mathlib.Core.Bool.{Bool, true, false, not, _&&_, _||_}
 use mathlib.Core.List.{List, [], _∷_}
 use lib.Dec.{eqb, leb}
-use Rattle.error.proofs.Choice.{if-cases}
+use borrow.Author.Tests.{not-false}
+use Rattle.error.proofs.Choice.{if-cases, and-split}
 use Rattle.wait.specs.declared.Wait.{Wait}
 use Rattle.wait.specs.declared.Observed.{Observed}
 use Rattle.wait.specs.declared.Move.{Move}
 use Rattle.wait.specs.declared.Move.the-variants.{Goes, Ends}
-use Rattle.wait.specs.declared.Ran.the-variants as Ran·is
 use Rattle.wait.specs.declared.Running.{Running}
 use Rattle.wait.specs.Turns.{endedWait, isHolding, timeInBounds, newWait, turnInBounds, waitInBounds, remaining, exceeds, usedUp, withZeros, naps, retriesZero, retries}
-use Rattle.wait.specs.Manner.{Manner, inOrder}
-use Rattle.wait.specs.Run.{ranAs, onward, steps}
+use Rattle.wait.specs.Manner.{Manner}
+use Rattle.wait.specs.Run.{uncounted, onward, steps}
 use Rattle.wait.specs.Keep.{postponed, napOf, checks, grants, moves, keep}
 use Rattle.wait.proofs.Limits.{time-le, times, bounded, →bounded}
 use Rattle.wait.proofs.Steps.{grant-bounded}
+use Rattle.wait.proofs.Walks.{in-order-cases}
 
 pub new-kept : (clock : ℕ) (limited : Bool) (timeout : ℕ) → timeInBounds clock ≡ true → timeInBounds timeout ≡ true → waitInBounds (newWait clock limited timeout) ≡ true
 new-kept clock true timeout a b =
@@ -88,16 +89,9 @@ onward-bounded : (x : Move) (more : Wait → Running) → ((v : Wait) → waitIn
 onward-bounded (Goes act v) more h b = h v b
 onward-bounded (Ends e) more h b = ended-bounded
 
-refused-bounded : (x b o : Bool) (w : Wait) (r : Running) → waitInBounds w ≡ true → (o ≡ true → waitInBounds (r .wait) ≡ true)
-    → waitInBounds (inOrder x (not (b && o)) (λ z. ranAs (Ran·is.Refused z) 0 w) r .wait) ≡ true
-refused-bounded true b o w r ok h = ok
-refused-bounded false true true w r ok h = h refl
-refused-bounded false true false w r ok h = ok
-refused-bounded false false o w r ok h = ok
-
 pub run-bounded : (m : Manner) → KeepsBounds m → (ts : List Observed) (w : Wait) → waitInBounds w ≡ true → waitInBounds (steps m ts w .wait) ≡ true
 unfolding steps
 run-bounded m k [] w b = b
 run-bounded m k (t ∷ ts) w b =
-    refused-bounded (m .ended w || not (m .knows (t .kind))) (waitInBounds w) (turnInBounds t) w (onward (m .moves w t) (λ v. steps m ts v)) b
-    (λ o. onward-bounded (m .moves w t) (λ v. steps m ts v) (λ v q. run-bounded m k ts v q) (k w t o b))
+    in-order-cases (λ (r : Running). waitInBounds (r .wait) ≡ true) (m .ended w || not (m .knows (t .kind))) (not (waitInBounds w && turnInBounds t)) (uncounted w) (onward (m .moves w t) (λ v. steps m ts v))
+    (λ r. b) (λ x y. onward-bounded (m .moves w t) (λ v. steps m ts v) (λ v q. run-bounded m k ts v q) (k w t (and-split (waitInBounds w) (turnInBounds t) (not-false (waitInBounds w && turnInBounds t) y) .1) b))

@@ -5,6 +5,7 @@ use mathlib.Core.Path.{_≡_, refl, sym, ap, _∙_}
 use mathlib.Core.Bool.{Bool, true, false, not, _&&_, _||_, false≢true}
 use mathlib.Core.List.{List, [], _∷_, _++_}
 use lib.ListN.{length}
+use borrow.Author.Tests.{not-false}
 use Rattle.wait.specs.declared.Wait.{Wait}
 use Rattle.wait.specs.declared.Observed.{Observed}
 use Rattle.wait.specs.declared.Move.{Move}
@@ -16,9 +17,9 @@ use Rattle.wait.specs.declared.Ran.{Ran}
 use Rattle.wait.specs.declared.Ran.the-variants as Ran·is
 use Rattle.wait.specs.declared.Running.{Running}
 use Rattle.wait.specs.Turns.{turnInBounds, waitInBounds}
-use Rattle.wait.specs.Manner.{Manner, inOrder, tested, turnedAs, leaves, turned}
-use Rattle.wait.specs.Run.{ranAs, oneStepMore, onward, standing, steps}
-use Rattle.wait.proofs.Walks.{in-order, counting}
+use Rattle.wait.specs.Manner.{Manner, tested, turnedAs, leaves, turned}
+use Rattle.wait.specs.Run.{ranAs, uncounted, oneStepMore, onward, standing, steps}
+use Rattle.wait.proofs.Walks.{in-order, in-order-cases, counting}
 
 -- ---- one by one
 
@@ -49,7 +50,7 @@ module _ (m : Manner) where
   pub by-turns : (t : Observed) (ts : List Observed) (w : Wait) → steps m (t ∷ ts) w ≡ taking (turned m w t .answer) (turned m w t .wait) (λ v. steps m ts v)
   unfolding steps turned
   by-turns t ts w =
-      ap (λ (x : Running). tested m (λ r. ranAs (Ran·is.Refused r) 0 w) x w t) (sym (leaves-onward (m .moves w t) (λ v. steps m ts v)))
+      ap (λ (x : Running). tested m (uncounted w) x w t) (sym (leaves-onward (m .moves w t) (λ v. steps m ts v)))
       ∙ sym (in-order (λ (x : Turning). taken x (λ v. steps m ts v)) (λ r. turnedAs (Turned·is.Refused r) w) (leaves (m .moves w t)) (m .ended w || not (m .knows (t .kind))) (not (waitInBounds w && turnInBounds t)))
 
   -- ---- a run that is not ended, and then another, is one run
@@ -86,31 +87,28 @@ pub record GoesOn (m : Manner) (ts : List Observed) (r : Running) : Type 0 where
   pub goes : m .ended (r .wait) ≡ false
   pub bounded : waitInBounds (r .wait) ≡ true
 
-stands-alone : (x y : Bool) → isUnfinished (inOrder x (not y) Ran·is.Refused Ran·is.Unfinished) ≡ true → (x ≡ false) × (y ≡ true)
-stands-alone true y e = absurd (false≢true e)
-stands-alone false true e = (refl, refl)
-stands-alone false false e = absurd (false≢true e)
-
--- a refused turn is no unfinished run
-not-refused : (P : Running → Type 0) (x y : Bool) (w : Wait) (r : Running) → isUnfinished (inOrder x y (λ z. ranAs (Ran·is.Refused z) 0 w) r .answer) ≡ true
-    → (isUnfinished (r .answer) ≡ true → P r) → P (inOrder x y (λ z. ranAs (Ran·is.Refused z) 0 w) r)
-not-refused P true y w r e h = absurd (false≢true e)
-not-refused P false true w r e h = absurd (false≢true e)
-not-refused P false false w r e h = h e
-
 module _ (m : Manner) where
-  one-goes-on : (t : Observed) (ts : List Observed) (x : Move) → ((v : Wait) → isUnfinished (steps m ts v .answer) ≡ true → GoesOn m ts (steps m ts v))
-      → isUnfinished (onward x (λ v. steps m ts v) .answer) ≡ true → GoesOn m (t ∷ ts) (onward x (λ v. steps m ts v))
-  one-goes-on t ts (Goes act v) h e =
+  -- a run of these turns, if it is unfinished
+  abbrev Unended : List Observed → Running → Type 0
+  Unended ts r = isUnfinished (r .answer) ≡ true → GoesOn m ts r
+
+  nothing-taken : (w : Wait) (a : Ran) → (isUnfinished a ≡ true → (m .ended w ≡ false) × (waitInBounds w ≡ true)) → Unended [] (ranAs a 0 w)
+  nothing-taken w a h e =
+      let q = h e in
+      record { taken = refl; goes = q .0; bounded = q .1 }
+
+  one-more-taken : (t : Observed) (ts : List Observed) (x : Move) → ((v : Wait) → Unended ts (steps m ts v)) → Unended (t ∷ ts) (onward x (λ v. steps m ts v))
+  one-more-taken t ts (Goes act v) h e =
       let q = h v e in
       record { taken = ap suc (q .taken); goes = q .goes; bounded = q .bounded }
-  one-goes-on t ts (Ends x) h e = absurd (false≢true e)
+  one-more-taken t ts (Ends x) h e = absurd (false≢true e)
 
-  pub unfinished : (ts : List Observed) (w : Wait) → isUnfinished (steps m ts w .answer) ≡ true → GoesOn m ts (steps m ts w)
+  pub unfinished : (ts : List Observed) (w : Wait) → Unended ts (steps m ts w)
   unfolding steps standing
-  unfinished [] w e =
-      let q = stands-alone (m .ended w) (waitInBounds w) e in
-      record { taken = refl; goes = q .0; bounded = q .1 }
-  unfinished (t ∷ ts) w e =
-      not-refused (GoesOn m (t ∷ ts)) (m .ended w || not (m .knows (t .kind))) (not (waitInBounds w && turnInBounds t)) w (onward (m .moves w t) (λ v. steps m ts v)) e
-      (one-goes-on t ts (m .moves w t) (λ v q. unfinished ts v q))
+  unfinished [] w =
+      nothing-taken w (standing m w)
+      (in-order-cases (λ (a : Ran). isUnfinished a ≡ true → (m .ended w ≡ false) × (waitInBounds w ≡ true)) (m .ended w) (not (waitInBounds w)) Ran·is.Refused Ran·is.Unfinished
+      (λ r e. absurd (false≢true e)) (λ x y e. (x, not-false (waitInBounds w) y)))
+  unfinished (t ∷ ts) w =
+      in-order-cases (Unended (t ∷ ts)) (m .ended w || not (m .knows (t .kind))) (not (waitInBounds w && turnInBounds t)) (uncounted w) (onward (m .moves w t) (λ v. steps m ts v))
+      (λ r e. absurd (false≢true e)) (λ x y. one-more-taken t ts (m .moves w t) (λ v. unfinished ts v))

@@ -26,15 +26,23 @@ use Rattle.wait.specs.declared.Dropped.the-variants as Dropped·is
 use Rattle.wait.specs.declared.Dropping.{Dropping}
 use Rattle.wait.specs.Turns.{endedWait, turnInBounds, waitInBounds}
 use Rattle.wait.specs.Manner.{Manner, inOrder, tested, turnedAs, leaves, turned, droppedAs, dropped}
-use Rattle.wait.specs.Run.{ranAs, standing, steps, turnOf, turnsOf, runs}
+use Rattle.wait.specs.Run.{ranAs, uncounted, standing, steps, turnOf, turnsOf, runs}
 
 -- ---- the tests of a turn
 
 -- a function of the answer may be taken of each answer beforehand
 pub in-order : {A B : Type 0} (h : A → B) (f : Refusal → A) (a : A) (x y : Bool) → h (inOrder x y f a) ≡ inOrder x y (λ r. h (f r)) (h a)
-in-order h f a true y = refl
+in-order h f a true true = refl
+in-order h f a true false = refl
 in-order h f a false true = refl
 in-order h f a false false = refl
+
+-- what holds of every refusal, and of the answer where neither cause is there
+pub in-order-cases : {A : Type 0} (P : A → Type 0) (x y : Bool) (f : Refusal → A) (a : A) → ((r : Refusal) → P (f r)) → (x ≡ false → y ≡ false → P a) → P (inOrder x y f a)
+in-order-cases P true true f a g h = g _
+in-order-cases P true false f a g h = g _
+in-order-cases P false true f a g h = g _
+in-order-cases P false false f a g h = h refl refl
 
 -- what a verdict comes to
 abbrev by : {A : Type 0} → (Refusal → A) → A → TurnTest → A
@@ -127,20 +135,20 @@ module _ (m : Manner) where
     pub step-refused : (r : Refusal) → Fails r ≡ tested m Fails Passes w t → counting n (steps m (t ∷ ts) w) ≡ ranAs (Ran·is.Refused r) n w
     unfolding steps
     step-refused r e =
-        ap (counting n) (sym (by-verdict m w t (λ r. ranAs (Ran·is.Refused r) 0 w) _ (Fails r) e)) ∙ ap (λ (k : ℕ). ranAs (Ran·is.Refused r) k w) (omega arith)
+        ap (counting n) (sym (by-verdict m w t (uncounted w) _ (Fails r) e)) ∙ ap (λ (k : ℕ). ranAs (Ran·is.Refused r) k w) (omega arith)
 
     pub step-goes : (act : Act) (next : Wait) → Passes ≡ tested m Fails Passes w t → Goes act next ≡ m .moves w t
         → counting n (steps m (t ∷ ts) w) ≡ counting (n + 1) (steps m ts next)
     unfolding steps
     step-goes act next p e =
         let more = steps m ts next in
-        ap (counting n) (sym (by-verdict m w t (λ r. ranAs (Ran·is.Refused r) 0 w) _ Passes p)) ∙ rw (← e) (ap (λ (k : ℕ). ranAs (more .answer) k (more .wait)) (omega arith))
+        ap (counting n) (sym (by-verdict m w t (uncounted w) _ Passes p)) ∙ rw (← e) (ap (λ (k : ℕ). ranAs (more .answer) k (more .wait)) (omega arith))
 
     pub step-ends : (e : Ending) → Passes ≡ tested m Fails Passes w t → Ends e ≡ m .moves w t → counting n (steps m (t ∷ ts) w) ≡ ranAs (Ran·is.Ends e) (n + 1) endedWait
     unfolding steps
-    step-ends e p q = ap (counting n) (sym (by-verdict m w t (λ r. ranAs (Ran·is.Refused r) 0 w) _ Passes p)) ∙ rw (← q) refl
+    step-ends e p q = ap (counting n) (sym (by-verdict m w t (uncounted w) _ Passes p)) ∙ rw (← q) refl
 
-  pub run-storage : (w : Wait) (xs : List ℕ) (limit : ℕ) → (length xs % 8 ≡ 0 → ⊥) → ranAs (Ran·is.Refused Refusal·is.Storage) 0 w ≡ runs m w xs limit
+  pub run-storage : (w : Wait) (xs : List ℕ) (limit : ℕ) → (length xs % 8 ≡ 0 → ⊥) → uncounted w Refusal·is.Storage ≡ runs m w xs limit
   unfolding runs
   run-storage w xs limit n = simp (ne-eqb _ _ n)
 

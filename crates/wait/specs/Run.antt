@@ -6,6 +6,7 @@ use lib.Dec.{eqb}
 use lib.ListN.{length, take, drop, getD}
 use Rattle.error.specs.Choice.{if_then_else_}
 use Rattle.error.specs.Told.{Told}
+use Rattle.error.specs.declared.Refusal.{Refusal}
 use Rattle.error.specs.declared.Refusal.the-variants as Refusal·is
 use Rattle.wait.specs.declared.Wait.{Wait}
 use Rattle.wait.specs.declared.Observed.{Observed}
@@ -26,7 +27,11 @@ ranAs answer taken w = record { answer = answer; taken = taken; wait = w }
 abbrev pub oneStepMore : Running → Running
 oneStepMore r = ranAs (r .answer) (suc (r .taken)) (r .wait)
 
--- ---- the steps. A refused turn isn't counted.
+-- ---- the steps
+
+-- a refused turn isn't counted, and leaves the wait
+abbrev pub uncounted : Wait → Refusal → Running
+uncounted w r = ranAs (Ran·is.Refused r) 0 w
 
 -- no turn is left, or the limit is reached: 11 and 1 for the wait alone, else 10
 unfoldable pub standing : Manner → Wait → Ran
@@ -38,7 +43,7 @@ onward (Ends e) more = ranAs (Ran·is.Ends e) 1 endedWait
 
 unfoldable pub steps : Manner → List Observed → Wait → Running
 steps m [] w = ranAs (standing m w) 0 w
-steps m (t ∷ ts) w = tested m (λ r. ranAs (Ran·is.Refused r) 0 w) (onward (m .moves w t) (λ next. steps m ts next)) w t
+steps m (t ∷ ts) w = tested m (uncounted w) (onward (m .moves w t) (λ next. steps m ts next)) w t
 
 -- ---- the entry point: "turns not a multiple of 8" is 3; then as many turns as the limit says
 
@@ -68,7 +73,7 @@ turnsOf (suc k) xs = turnOf xs ∷ turnsOf k (drop 8 xs)
 unfoldable pub runs : Manner → Wait → List ℕ → ℕ → Running
 runs m w xs limit =
     if wholeTurns xs then steps m (take limit (turnsOf (length xs / 8) xs)) w
-    else ranAs (Ran·is.Refused Refusal·is.Storage) 0 w
+    else uncounted w Refusal·is.Storage
 
 -- "turns taken, wait reached" beside what was told
 pub record RunAfter : Type 0 where

@@ -3,7 +3,7 @@ ghost use mathlib.Core.Path.{_≡_};
 ghost use Rattle.wait.specs.Answers.{startedTold};
 ghost use Rattle.wait.specs.Keep.{keep};
 ghost use Rattle.wait.specs.Manner.{dropped, tellDrop, tellTurn, turned};
-ghost use Rattle.wait.specs.Run.{runs, tellRun};
+ghost use Rattle.wait.specs.Run.{ranAs, runs, tellRun};
 ghost use Rattle.wait.specs.Turns as Turns;
 ghost use Rattle.wait.specs.Turns.{started};
 use crate::Dropping;
@@ -85,37 +85,35 @@ pub fn turn(wait: Wait, turn: Observed) -> Turning
     }
 }
 
+fn ran_as(answer: Ran, taken: u64, wait: Wait) -> Running
+    ensures { λ r. ⌜ r ≡ ranAs answer taken wait ⌝ }
+{
+    Running {
+        answer,
+        taken,
+        wait,
+    }
+}
+
 // Takes turns until the wait ends, one is refused, or the limit or the turns are used up. A turn past the limit is not read.
 // Ruled out: a count that isn't that of the rules; a run that reads past the end.
 pub fn run(wait: Wait, turns: &[u64], limit: u64) -> Running
     ensures { λ r. ⌜ tellRun r ≡ tellRun (runs keep wait (now (turns .entry)) limit) ⌝ }
 {
     if turns.len() % TURN_WIDTH != 0 {
-        return Running {
-            answer: Ran::Refused(Refusal::Storage),
-            taken: 0,
-            wait,
-        };
+        return ran_as(Ran::Refused(Refusal::Storage), 0, wait);
     }
     let mut at: usize = 0;
     let mut taken: u64 = 0;
     let mut reached = wait;
     while at < turns.len() {
         if taken >= limit {
-            return Running {
-                answer: stand(has_ended(reached), reached),
-                taken,
-                wait: reached,
-            };
+            return ran_as(stand(has_ended(reached), reached), taken, reached);
         }
         let turn = turn_at(turns, at);
         let verdict = test(reached, turn);
         if let TurnTest::Fails(r) = verdict {
-            return Running {
-                answer: Ran::Refused(r),
-                taken,
-                wait: reached,
-            };
+            return ran_as(Ran::Refused(r), taken, reached);
         }
         let step = moves(reached, turn);
         match step {
@@ -123,21 +121,13 @@ pub fn run(wait: Wait, turns: &[u64], limit: u64) -> Running
                 reached = next;
             }
             Move::Ends(ending) => {
-                return Running {
-                    answer: Ran::Ends(ending),
-                    taken: taken + 1,
-                    wait: ended_wait(),
-                };
+                return ran_as(Ran::Ends(ending), taken + 1, ended_wait());
             }
         }
         at += TURN_WIDTH;
         taken += 1;
     }
-    Running {
-        answer: stand(has_ended(reached), reached),
-        taken,
-        wait: reached,
-    }
+    ran_as(stand(has_ended(reached), reached), taken, reached)
 }
 
 // Ends a wait before it has ended (`Drop` of the Rust's `Release`): a held grant is to be given back.
