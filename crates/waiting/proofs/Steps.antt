@@ -50,9 +50,6 @@ use Rattle.wait.specs.Manner.{turned, dropped}
 use Rattle.wait.specs.Run.{runs}
 use Rattle.wait.specs.Keep.{keep}
 use Rattle.waiting.specs.declared.Pending.{Pending}
-use Rattle.waiting.specs.declared.Proceeding.{Proceeding}
-use Rattle.waiting.specs.declared.Course.the-variants.{Refused}
-use Rattle.waiting.specs.Answers.{courseTold}
 use Rattle.waiting.specs.Rules.{afterAbort, judged, completes}
 use Rattle.waiting.specs.Calls.{PendingAfter, pendingAfter, pending, beside, begins, startedTo, starting, turnedTo, turning, PendingRun, pendingRun, ranTo, running, droppedTo, leaving}
 
@@ -219,9 +216,3 @@ module _ (b : Breaker) (s : List ℕ) (p : Pending) where
         ∙ ap (beside (pending (x .wait) (p .ticket))) d
         ∙ ap (λ (y : Dropped). droppedTo y (x .wait) b s p) (sym e)
         ∙ drop-is ok x is
-
--- a run that takes no turn
-pub not-run-is : (x : Proceeding) (r : Refusal) (b : Breaker) (p : Pending) (s : List ℕ)
-    → (x .answer .course ≡ Refused r) × (x .answer .taken ≡ 0) × (x .breaker ≡ b) × (x .pending ≡ p)
-    → pendingRun (pendingAfter (courseTold (x .answer .course)) (x .breaker) s (x .pending)) (x .answer .taken) ≡ pendingRun (pendingAfter (refused r) b s p) 0
-not-run-is x r b p s e = rw (e .0, e .1, e .2, e .3) refl

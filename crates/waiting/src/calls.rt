@@ -1,6 +1,8 @@
 // The calls of a wait before a breaker. Each tests storage and soundness first, then the wait; a refused one leaves the breaker as it was.
 ghost use mathlib.Core.Path.{_≡_};
 ghost use mathlib.Core.Bool.{true};
+ghost use mathlib.Core.List.{List};
+ghost use Prim.Native.Nat.{ℕ};
 ghost use Rattle.breaker.specs.Record.{settings, state, sound};
 ghost use Rattle.breaker.specs.Calls.{after, kept};
 ghost use Rattle.wait.specs.Answers.{droppedTold};
@@ -8,7 +10,6 @@ ghost use Rattle.waiting.specs.Answers.{begunTold, completedTold, awaite
 ghost use Rattle.waiting.specs.Rules.{completes};
 ghost use Rattle.waiting.specs.Calls as Calls;
 ghost use Rattle.waiting.specs.Calls.{pendingAfter, pendingRun, starting, turning, running, leaving};
-ghost use Rattle.waiting.specs.declared.Course.the-variants.{Refused};
 use crate::Awaited;
 use crate::Awaiting;
 use crate::Beginning;
@@ -175,6 +176,16 @@ pub fn turn(
     }
 }
 
+fn proceeding(course: Course, taken: u64, breaker: Breaker, pending: Pending) -> Proceeding
+    ensures { λ r. ⌜ ((places : List ℕ) → pendingRun (pendingAfter (courseTold (r .answer .course)) (r .breaker) places (r .pending)) (r .answer .taken) ≡ pendingRun (pendingAfter (courseTold course) breaker places pending) taken) ⌝ }
+{
+    Proceeding {
+        answer: Progress { course, taken },
+        breaker,
+        pending,
+    }
+}
+
 // Takes turns until the wait ends, one is refused, or the limit or the turns are used up; one that ends is completed.
 // Ruled out: a count that isn't that of the rules; a refused turn that aborts the ticket.
 pub fn run(
@@ -189,60 +200,26 @@ pub fn run(
     ensures { λ r. ⌜ pendingRun (pendingAfter (courseTold (r .answer .course)) (r .breaker) (now (list .exit)) (r .pending)) (r .answer .taken) ≡ running (now (turns .entry)) limit «now_ms» capacity breaker (now (list .entry)) pending ⌝ }
 {
     if turns.len() % TURN_WIDTH != 0 {
-        return not_run(Refusal::Storage, breaker, pending);
+        return proceeding(Course::Refused(Refusal::Storage), 0, breaker, pending);
     }
     match test(breaker, list) {
-        Tested::Refused(r) => not_run(r, breaker, pending),
+        Tested::Refused(r) => proceeding(Course::Refused(r), 0, breaker, pending),
         Tested::Sound => {
             let ran = wait::run(pending.wait, turns, limit);
             let answer = ran.answer;
             let taken = ran.taken;
             let next = with_wait(ran.wait, pending);
             match answer {
-                Ran::Unfinished => Proceeding {
-                    answer: Progress {
-                        course: Course::Unfinished,
-                        taken,
-                    },
-                    breaker,
-                    pending: next,
-                },
-                Ran::Refused(r) => Proceeding {
-                    answer: Progress {
-                        course: Course::Refused(r),
-                        taken,
-                    },
-                    breaker,
-                    pending: next,
-                },
+                Ran::Unfinished => proceeding(Course::Unfinished, taken, breaker, next),
+                Ran::Refused(r) => proceeding(Course::Refused(r), taken, breaker, next),
                 Ran::Ends(ending) => {
                     let done = complete(breaker, list, pending.ticket, ending, now_ms, capacity);
                     let told = done.answer;
                     let left = done.breaker;
-                    Proceeding {
-                        answer: Progress {
-                            course: Course::Ends(told),
-                            taken,
-                        },
-                        breaker: left,
-                        pending: next,
-                    }
+                    proceeding(Course::Ends(told), taken, left, next)
                 }
             }
         }
-    }
-}
-
-fn not_run(refusal: Refusal, breaker: Breaker, pending: Pending) -> Proceeding
-    ensures { λ r. ⌜ (r .answer .course ≡ Refused refusal) × (r .answer .taken ≡ 0) × (r .breaker ≡ breaker) × (r .pending ≡ pending) ⌝ }
-{
-    Proceeding {
-        answer: Progress {
-            course: Course::Refused(refusal),
-            taken: 0,
-        },
-        breaker,
-        pending,
     }
 }
 
