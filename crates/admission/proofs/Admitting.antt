@@ -4,21 +4,26 @@ use mathlib.Core.Bool.{Bool, true, false}
 use mathlib.Core.List.{List, [], _∷_}
 use Prim.Native.Nat.{ℕ}
 use native.Mathlib.Omega.{arith}
-use Rattle.error.specs.Told.{Told, tell, nothing}
+use Rattle.error.specs.Told.{Told, tell}
 use Rattle.history.specs.Items.{padded}
 use Rattle.trip.specs.declared.Config.{Config}
 use Rattle.breaker.specs.declared.Ticket.{Ticket}
 use Rattle.breaker.specs.declared.Breaker.{Breaker}
 use Rattle.breaker.specs.declared.Delay.{Delay}
 use Rattle.steps.specs.declared.Entry.the-variants.{Granted, Shed}
+use Rattle.steps.specs.declared.Verdict.{Verdict}
+use Rattle.steps.specs.declared.Verdict.the-variants as Verdict·is
+use Rattle.breaker.specs.declared.Standing.the-variants as Standing·is
 use Rattle.breaker.specs.declared.Decision.{Decision}
 use Rattle.breaker.specs.declared.Decision.the-variants.{Acquired, Retry, Impossible}
 use Rattle.error.specs.Choice.{if_then_else_}
 use Rattle.breaker.specs.Record.{Settings, State, settings, state, stored, sound}
-use Rattle.breaker.specs.Answers.{delayValues, delayOf, ticketValues, decisionValues}
-use Rattle.breaker.specs.Rules.{Outcome, Admitted, granted, shed, admit, admitAs, viaTrait, noted, sheds, finish, aborting, outcome}
-use Rattle.breaker.specs.Calls.{after, kept, answered, admission, tryInner, tryAdmit, isAcquired, peeked, peek, available}
-use Rattle.steps.specs.Steps.{entry}
+use Rattle.breaker.specs.Answers.{delayValues, delayOf, shedTold, ticketValues, decisionValues, isAcquired, standingTold}
+use Rattle.breaker.specs.Rules.{Outcome, outcome, Admitted, granted, shed, admit, admitAs, viaTrait, noted, aborted}
+use Rattle.breaker.specs.Rules as Rules
+use Rattle.breaker.specs.Rules.{admits, refuses, stillAdmits}
+use Rattle.breaker.specs.Calls.{after, kept, answered, admission, tryInner, tryAdmit, peeked, peek, available, verdictOf}
+use Rattle.steps.specs.Steps.{entry, verdict}
 use Rattle.breaker.proofs.Cases.{admit-cases}
 use Rattle.breaker.proofs.Guard.{unchanged}
 use Rattle.steps.proofs.Aborting.{given-back}
@@ -80,7 +85,7 @@ module _ (reading : ℕ) (b : Breaker) (s : List ℕ) (ok : sound b s ≡ true) 
     pub admitted-shed : (d : Delay) → Shed d ≡ entry c asked → after (tell 6 (delayValues d)) b s ≡ kept c (admission trait reading (settings c) st)
     admitted-shed d e =
         entered-shed c d asked e
-        (λ ms q r. ap (λ (x : Delay). after (tell 6 (delayValues x)) b s) r ∙ unchanged (sheds ms) b s ok ∙ ap (λ (x : Admitted). kept c (answered x st)) (sym q))
+        (λ ms q r. ap (λ (x : Delay). after (tell 6 (delayValues x)) b s) r ∙ unchanged (shedTold (delayOf ms)) b s ok ∙ ap (λ (x : Admitted). kept c (answered x st)) (sym q))
 
     pub admitted-granted : (t : Ticket) (next : Breaker) → Granted t next ≡ entry c asked
         → after (tell 0 (ticketValues t)) next s ≡ kept c (admission trait reading (settings c) st)
@@ -93,7 +98,7 @@ module _ (reading : ℕ) (b : Breaker) (s : List ℕ) (ok : sound b s ≡ true) 
   plain = admit (settings c) reading st
 
   module _ (inner : Decision) (capacity : ℕ) where
-    try-shed : (i : Decision) (ms : ℕ) → outcome (sheds ms) st ≡ tryInner i capacity reading (settings c) (shed ms) st
+    try-shed : (i : Decision) (ms : ℕ) → outcome (shedTold (delayOf ms)) st ≡ tryInner i capacity (shed ms) st
     try-shed Acquired ms = refl
     try-shed (Retry d) ms = refl
     try-shed Impossible ms = refl
@@ -101,23 +106,22 @@ module _ (reading : ℕ) (b : Breaker) (s : List ℕ) (ok : sound b s ≡ true) 
     pub tried-shed : (d : Delay) → Shed d ≡ entry c plain → after (tell 6 (delayValues d)) b s ≡ kept c (tryAdmit inner capacity reading (settings c) st)
     tried-shed d e =
         entered-shed c d plain e
-        (λ ms q r. ap (λ (x : Delay). after (tell 6 (delayValues x)) b s) r ∙ unchanged (sheds ms) b s ok ∙ ap (kept c) (try-shed inner ms) ∙ ap (λ (x : Admitted). kept c (tryInner inner capacity reading (settings c) x st)) (sym q))
+        (λ ms q r. ap (λ (x : Delay). after (tell 6 (delayValues x)) b s) r ∙ unchanged (shedTold (delayOf ms)) b s ok ∙ ap (kept c) (try-shed inner ms) ∙ ap (λ (x : Admitted). kept c (tryInner inner capacity x st)) (sym q))
 
     module _ (t : Ticket) (next : Breaker) (e : Granted t next ≡ entry c plain) where
       pub tried-granted : inner ≡ Acquired → after (tell 0 (ticketValues t)) next s ≡ kept c (tryAdmit inner capacity reading (settings c) st)
       tried-granted i =
           entered-granted c t next plain e
           (λ st′ q r. goes (tell 0 (ticketValues t)) st′ next r (places plain (admit-keeps (settings c) reading st) t st′ q)
-          ∙ ap₂ (λ (x : Admitted) (y : Decision). kept c (tryInner y capacity reading (settings c) x st)) (sym q) (sym i))
+          ∙ ap₂ (λ (x : Admitted) (y : Decision). kept c (tryInner y capacity x st)) (sym q) (sym i))
 
-      pub tried-back : (told : Told) (final : Breaker)
-          → ((st′ : State) → next ≡ stored c st′ → kept c (finish (settings c) reading (aborting t false) st′) ≡ after nothing final (padded (st′ .list)))
-          → ((st′ : State) → tryInner inner capacity reading (settings c) (granted t st′) st ≡ outcome told (finish (settings c) reading (aborting t false) st′ .after))
+      pub tried-back : (told : Told) (final : Breaker) → ((st′ : State) → next ≡ stored c st′ → final ≡ stored c (aborted t false st′))
+          → ((st′ : State) → tryInner inner capacity (granted t st′) st ≡ outcome told (aborted t false st′))
           → after told final s ≡ kept c (tryAdmit inner capacity reading (settings c) st)
       tried-back told final f i =
           entered-granted c t next plain e
-          (λ st′ q r. given-back told c reading t false st′ final s (f st′ r) (places plain (admit-keeps (settings c) reading st) t st′ q) ∙ ap (kept c) (sym (i st′))
-          ∙ ap (λ (x : Admitted). kept c (tryInner inner capacity reading (settings c) x st)) (sym q))
+          (λ st′ q r. given-back told c t false st′ final s (f st′ r) (places plain (admit-keeps (settings c) reading st) t st′ q) ∙ ap (kept c) (sym (i st′))
+          ∙ ap (λ (x : Admitted). kept c (tryInner inner capacity x st)) (sym q))
 
   -- ---- the trait side
   abbrev trait : Admitted
@@ -137,12 +141,11 @@ module _ (reading : ℕ) (b : Breaker) (s : List ℕ) (ok : sound b s ≡ true) 
           entered-granted c t next trait e
           (λ st′ q r. goes told st′ next r (places trait (admitAs-keeps true (settings c) reading st) t st′ q) ∙ ap (kept c) (sym (i st′)) ∙ ap (λ (x : Admitted). kept c (rule x)) (sym q))
 
-      pub handed-back : (final : Breaker)
-          → ((st′ : State) → next ≡ stored c st′ → kept c (finish (settings c) reading (aborting t true) st′) ≡ after nothing final (padded (st′ .list)))
-          → ((st′ : State) → rule (granted t st′) ≡ outcome told (finish (settings c) reading (aborting t true) st′ .after)) → after told final s ≡ kept c (rule trait)
+      pub handed-back : (final : Breaker) → ((st′ : State) → next ≡ stored c st′ → final ≡ stored c (aborted t true st′))
+          → ((st′ : State) → rule (granted t st′) ≡ outcome told (aborted t true st′)) → after told final s ≡ kept c (rule trait)
       handed-back final f i =
           entered-granted c t next trait e
-          (λ st′ q r. given-back told c reading t true st′ final s (f st′ r) (places trait (admitAs-keeps true (settings c) reading st) t st′ q) ∙ ap (kept c) (sym (i st′))
+          (λ st′ q r. given-back told c t true st′ final s (f st′ r) (places trait (admitAs-keeps true (settings c) reading st) t st′ q) ∙ ap (kept c) (sym (i st′))
           ∙ ap (λ (x : Admitted). kept c (rule x)) (sym q))
 
   -- ---- peek and available
@@ -164,3 +167,15 @@ module _ (reading : ℕ) (b : Breaker) (s : List ℕ) (ok : sound b s ≡ true) 
       → tell 0 (n ∷ []) ≡ available inner count reading (settings c) st
   counted-granted inner count n t next e f =
       entered-granted c t next plain e (λ st′ q r. ap (λ (m : ℕ). tell 0 (m ∷ [])) (sym f) ∙ ap (counts inner count) (sym q))
+
+-- ---- still_admits: a verdict, told
+abbrev told : Verdict → Told
+told Verdict·is.Admits = standingTold Standing·is.Admits
+told (Verdict·is.Shed d) = standingTold (Standing·is.Shed d)
+
+pub stands : (reading : ℕ) (t : Ticket) (st : State) (v : Verdict) → v ≡ verdict (stillAdmits reading t st) → told v ≡ standingTold (verdictOf (stillAdmits reading t st))
+stands reading t st v e = ap told e ∙ go (stillAdmits reading t st)
+  where
+    go : (x : Rules.Verdict) → told (verdict x) ≡ standingTold (verdictOf x)
+    go admits = refl
+    go (refuses ms) = refl

@@ -1,20 +1,24 @@
-// Admission, with or without the inner limiter's reply.
+// Admission, with or without the inner limiter's reply, and whether a waiter may still go.
 ghost use mathlib.Core.Path.{_≡_};
-ghost use Rattle.breaker.specs.Answers.{admissionTold, triedTold};
+ghost use Rattle.breaker.specs.Answers.{admissionTold, triedTold, standingTold};
 ghost use Rattle.breaker.specs.Calls as Calls;
-ghost use Rattle.breaker.specs.Calls.{after, onSound};
+ghost use Rattle.breaker.specs.Calls.{after, onSound, asked};
 use breaker::Admission;
 use breaker::Admitted;
 use breaker::Breaker;
 use breaker::Decision;
+use breaker::Standing;
 use breaker::Tested;
+use breaker::Ticket;
 use breaker::Tried;
 use breaker::TriedAdmission;
 use breaker::test;
 use steps::Entry;
+use steps::Verdict;
 use steps::abort_locked;
 use steps::admit_as_locked;
 use steps::admit_locked;
+use steps::still_admits_locked;
 
 // Admits a call, through the trait side or not, or sheds it with a delay.
 // Ruled out: one that sheds every call; one that grants generation 0 to all.
@@ -74,6 +78,20 @@ pub fn try_admit(
                     breaker: abort_locked(next, t, false),
                 },
             },
+        },
+    }
+}
+
+// Whether a waiter with this ticket may still go.
+// Ruled out: a shed of the present generation while Open; a delay above 0 in HalfOpen.
+pub fn still_admits(breaker: Breaker, list: &[u64], now_ms: u64, ticket: Ticket) -> Standing
+    ensures { λ r. ⌜ standingTold r ≡ asked (Calls.standing «now_ms» ticket) breaker (now (list .entry)) ⌝ }
+{
+    match test(breaker, list) {
+        Tested::Refused(r) => Standing::Refused(r),
+        Tested::Sound => match still_admits_locked(breaker, now_ms, ticket) {
+            Verdict::Admits => Standing::Admits,
+            Verdict::Shed(d) => Standing::Shed(d),
         },
     }
 }

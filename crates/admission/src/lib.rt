@@ -4,6 +4,7 @@ mod calls;
 mod limiter;
 
 pub use calls::admit_as;
+pub use calls::still_admits;
 pub use calls::try_admit;
 pub use limiter::acquire_cost;
 pub use limiter::available;

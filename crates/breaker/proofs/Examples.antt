@@ -11,7 +11,7 @@ use Rattle.breaker.proofs.Orders.{finishing-orders}
 
 -- HalfOpen with both trials out
 abbrev trying : ℕ → State
-trying g = record { state = HalfOpen; generation = g; run = 2; inflight = 2; traitProbes = 0; successes = 0; openUntil = 30; list = [] }
+trying g = record { state = HalfOpen; generation = g; run = 2; counts = record { inflight = 2; «trait_probes» = 0; successes = 0 }; openUntil = 30; list = [] }
 
 -- at the generation that wraps
 abbrev last : Breaker

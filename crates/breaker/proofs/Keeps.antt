@@ -2,7 +2,7 @@
 --     sound-counts, sound-history, sound-moved         one law for each kind of change to a state
 --     sound-opening, sound-closing, sound-halfOpening  the transitions
 --     sound-recorded, sound-recorded-good              the policy's list after a failure that has room, and after a success
---     sound-finish, sound-run, sound-admitAs, ..       the rules, and the entry points as `Keeps rule`
+--     sound-settled, sound-aborted, sound-sequence, sound-admitAs, ..       the rules, and the entry points as `Keeps rule`
 --     refused-unchanged, refused-manual                a call that is refused
 use Prim.Native.Nat.{ℕ, _+_, _≤_, _<_}
 use native.Mathlib.Omega.{arith}
@@ -14,7 +14,7 @@ use lib.Dec.{leb, eqb}
 use lib.ListN.{length}
 use lib.Ieee.{binary64, ofBits}
 use borrow.Author.Tests.{leb-true, leb-false}
-use Rattle.error.specs.Choice.{if_then_else_}
+use Rattle.error.specs.Choice.{if_then_else_, bit}
 use Rattle.error.specs.Told.{Told, tell, refused}
 use Rattle.error.specs.declared.Refusal.the-variants.{Full}
 use Rattle.history.specs.declared.Items.{Items}
@@ -25,16 +25,18 @@ use Rattle.history.proofs.Sound.{view-padded, outcomes-fit}
 use Rattle.history.proofs.Held.{clear-sound, outcome-sound, time-sound, evict-sound}
 use Rattle.trip.specs.declared.Config.{Config}
 use Rattle.trip.specs.Policy.{Policy, Consecutive, Ratio, Windowed, policyOf}
+use Rattle.breaker.specs.declared.Counts.{Counts}
 use Rattle.breaker.specs.declared.Breaker.{Breaker}
 use Rattle.breaker.specs.declared.Ticket.{Ticket}
 use Rattle.breaker.specs.declared.Decision.{Decision}
 use Rattle.breaker.specs.declared.Decision.the-variants.{Acquired, Retry, Impossible}
 use Rattle.breaker.specs.declared.Reservation.{Reservation}
-use Rattle.breaker.specs.Record.{Settings, State, Closed, HalfOpen, Open, settings, state, fields, stored, soundPolicy, soundConfig, itemsOf, sound}
-use Rattle.breaker.specs.Rules.{Outcome, outcome, withCounts, withHistory, moved, opening, closing, halfOpening, counting, recorded, noRoom, Call, success, failure, abort, traitAbort, probes, inHalfOpen, inClosed, finish, settling, ticketOf, released, manual, Admitted, granted, shed, admit, noted, viaTrait, admitAs, reset}
-use Rattle.breaker.specs.Calls.{fresh, answered, admission, tryInner, tryAdmit, cancel, isAcquired, handedOn, acquireInner, acquireCost, isReserved, reserveInner, reserve, refund}
-use Rattle.breaker.specs.Orders.{run}
-use Rattle.breaker.proofs.Cases.{probe-cases, admit-cases, failing, finish-cases, failure-cases}
+use Rattle.breaker.specs.Record.{Settings, State, Closed, HalfOpen, Open, settings, state, fields, stored, soundPolicy, soundConfig, itemsFor, itemsOf, sound}
+use Rattle.breaker.specs.Rules.{Outcome, outcome, withCounts, withHistory, moved, noCounts, oneMoreTrial, oneMoreTraitProbe, lessCounts, counting, opening, closing, halfOpening, recorded, noRoom, Call, success, failure, abort, traitAbort, probes, inHalfOpen, inClosed, settled, aborted, finish, ticketOf, released, manual, Admitted, granted, shed, admit, noted, viaTrait, admitAs, reset}
+use Rattle.breaker.specs.Answers.{isAcquired}
+use Rattle.breaker.specs.Calls.{fresh, answered, admission, tryInner, tryAdmit, cancel, decided, reserved, handedOn, acquireInner, acquireCost, isReserved, reserveInner, reserve, refund}
+use Rattle.breaker.specs.Orders.{sequence}
+use Rattle.breaker.proofs.Cases.{probe-cases, admit-cases, failing, settled-cases, failure-cases, aborted-cases}
 use Rattle.breaker.proofs.Record.{SoundShared, Sound, config→, shared→, →shared, sound→, →sound, stored-state, padded-state}
 
 -- a state is sound under its settings: what is stored of it passes the test
@@ -45,8 +47,8 @@ SoundAt c st = sound (stored c st) (padded (st .list)) ≡ true
 empty-fits : (c : Config) → soundPolicy c ≡ true → fits (itemsOf c) 0 ≡ true
 unfolding soundPolicy
 empty-fits c p =
-    if-cases (λ (i : Items). fits i 0 ≡ true) (eqb (c .kind) 1) (λ e. refl)
-    (λ e. if-cases (λ (i : Items). fits i 0 ≡ true) (eqb (c .kind) 2)
+    if-cases (λ (q : Policy). fits (itemsFor q) 0 ≡ true) (eqb (c .kind) 1) (λ e. refl)
+    (λ e. if-cases (λ (q : Policy). fits (itemsFor q) 0 ≡ true) (eqb (c .kind) 2)
     (λ k.
     let q = and-split (leb 1 (c .limit)) _ (rw (e, k) at p) in
     let r = and-split (leb (c .limit) 4096) _ (q .1) in
@@ -78,9 +80,9 @@ module _ (c : Config) (st : State) (ok : SoundAt c st) where
   pub shared : SoundShared c (fields st)
   shared = shared→ c (fields st) (whole .shared)
 
-  -- inflight, trait probes and successes, in HalfOpen
-  pub sound-counts : (a t g : ℕ) → st .state ≡ HalfOpen → a ≤ c .trials → g < c .required → SoundAt c (withCounts a t g st)
-  sound-counts a t g h p q = sound-at c (withCounts a t g st) (whole .config) (record { code = shared .code; inflight = p; successes = q; idle = inl h }) (whole .list)
+  -- what is counted, in HalfOpen
+  pub sound-counts : (x : Counts) → st .state ≡ HalfOpen → x .inflight ≤ c .trials → x .successes < c .required → SoundAt c (withCounts x st)
+  sound-counts x h p q = sound-at c (withCounts x st) (whole .config) (record { code = shared .code; inflight = p; successes = q; idle = inl h }) (whole .list)
 
   -- the run of failures and the list
   pub sound-history : (r : ℕ) (ys : List ℕ) → soundList (itemsOf c) (length ys) (padded ys) ≡ true → SoundAt c (withHistory r ys st)
@@ -88,9 +90,9 @@ module _ (c : Config) (st : State) (ok : SoundAt c st) where
       sound-at c (withHistory r ys st) (whole .config) (record { code = shared .code; inflight = shared .inflight; successes = shared .successes; idle = shared .idle }) l
 
   -- a transition with the counters emptied
-  sound-moved : (to until : ℕ) → to ≤ 2 → SoundAt c (moved to until (withCounts 0 0 0 st))
+  sound-moved : (to until : ℕ) → to ≤ 2 → SoundAt c (moved to until (withCounts noCounts st))
   sound-moved to until h =
-      sound-at c (moved to until (withCounts 0 0 0 st)) (whole .config)
+      sound-at c (moved to until (withCounts noCounts st)) (whole .config)
       (record { code = h; inflight = omega arith; successes = config→ c (whole .config) .some; idle = inr (refl, refl, refl) })
       (whole .list)
 
@@ -105,25 +107,9 @@ module _ (c : Config) (st : State) (ok : SoundAt c st) where
   pub sound-halfOpening : SoundAt c (halfOpening st)
   sound-halfOpening =
       let g = config→ c (whole c st ok .config) in
-      sound-counts c (moved HalfOpen (st .openUntil) (withCounts 0 0 0 st)) (sound-moved c st ok HalfOpen (st .openUntil) (omega arith)) 1 0 0 refl (omega (arith, g .some, g .most)) (g .some)
+      sound-counts c (moved HalfOpen (st .openUntil) (withCounts noCounts st)) (sound-moved c st ok HalfOpen (st .openUntil) (omega arith)) (oneMoreTrial noCounts) refl (omega (arith, g .some, g .most)) (g .some)
 
 -- ---- what the policy records
-
--- the items of a policy's list
-abbrev itemsFor : Policy → Items
-itemsFor (Consecutive n) = Nothing
-itemsFor (Ratio window ratio least) = Outcomes window
-itemsFor (Windowed limit period) = Times
-
--- they are those of the settings
-items-policy : (c : Config) → itemsOf c ≡ itemsFor (policyOf c)
-items-policy c = go (eqb (c .kind) 1) (eqb (c .kind) 2)
-  where
-    go : (x y : Bool) → (if x then Nothing else if y then Outcomes (c .limit) else Times)
-        ≡ itemsFor (if x then Consecutive (c .limit) else if y then Ratio (c .limit) (ofBits binary64 (c .«ratio_bits»)) (c .«min_calls») else Windowed (c .limit) (c .«period_ms»))
-    go true y = refl
-    go false true = refl
-    go false false = refl
 
 -- the list is one that the policy can have
 abbrev SoundItems : Policy → List ℕ → Type 0
@@ -141,7 +127,7 @@ module _ (c : Config) (st : State) (ok : SoundAt c st) where
   -- the list of the settings' policy
   record-any : (failed : Bool) (reading : ℕ) → (failed && noRoom (policyOf c) reading (st .list)) ≡ false
       → let ys = recorded (policyOf c) failed reading (st .list) in soundList (itemsOf c) (length ys) (padded ys) ≡ true
-  record-any failed reading r = rw items-policy (records (policyOf c) failed reading (st .list) r (rw items-policy at (whole c st ok .list)))
+  record-any failed reading r = records (policyOf c) failed reading (st .list) r (whole c st ok .list)
 
   -- the list after a failure that has room
   pub sound-recorded : (reading : ℕ) → noRoom (policyOf c) reading (st .list) ≡ false
@@ -158,37 +144,42 @@ module _ (c : Config) (st : State) (ok : SoundAt c st) where
   recorded-held failed reading r e = sound-history c st ok r (recorded (policyOf c) failed reading (st .list)) (record-any failed reading e)
 
   -- ---- the calls that finish a permit
-  sound-counting : (p t g : ℕ) → st .state ≡ HalfOpen → st .successes + g < c .required → SoundAt c (counting p t g st)
-  sound-counting p t g h l = sound-counts c st ok _ _ _ h (omega (arith, shared c st ok .inflight)) l
+  sound-counting : (p t g : ℕ) → st .state ≡ HalfOpen → st .counts .successes + g < c .required → SoundAt c (counting p t g st)
+  sound-counting p t g h l = sound-counts c st ok (lessCounts p t g (st .counts)) h (omega (arith, shared c st ok .inflight)) l
 
-  sound-half : (reading : ℕ) (call : Call) → st .state ≡ HalfOpen → SoundAt c (inHalfOpen (settings c) reading call st)
-  sound-half reading (success t) h =
-      if-cases (SoundAt c) (leb (c .required) (st .successes + 1)) {a = closing st} {b = counting (probes t) 0 1 st}
+  sound-half : (reading : ℕ) (t : Ticket) (good : Bool) → st .state ≡ HalfOpen → SoundAt c (inHalfOpen (settings c) reading t good st)
+  sound-half reading t true h =
+      if-cases (SoundAt c) (leb (c .required) (st .counts .successes + 1)) {a = closing st} {b = counting (probes t) 0 1 st}
       (λ e. sound-closing c st ok)
-      (λ e. sound-counting (probes t) 0 1 h (leb-false (c .required) (st .successes + 1) e))
-  sound-half reading (failure t) h = sound-opening c st ok (settings c) reading
-  sound-half reading (abort t) h = sound-counting (probes t) 0 0 h (omega (arith, shared c st ok .successes))
-  sound-half reading (traitAbort t) h = sound-counting (probes t) (probes t) 0 h (omega (arith, shared c st ok .successes))
+      (λ e. sound-counting (probes t) 0 1 h (leb-false (c .required) (st .counts .successes + 1) e))
+  sound-half reading t false h = sound-opening c st ok (settings c) reading
 
-  sound-closed : (reading : ℕ) (call : Call) → SoundAt c (inClosed (settings c) reading call st .after)
+  pub sound-closed : (reading : ℕ) (good : Bool) → SoundAt c (inClosed (settings c) reading good st .after)
   unfolding inClosed
-  sound-closed reading (success t) = recorded-held false reading 0 refl
-  sound-closed reading (failure t) =
-      failure-cases (λ o. SoundAt c (o .after)) (settings c) reading st t ok
+  sound-closed reading true = recorded-held false reading 0 refl
+  sound-closed reading false =
+      failure-cases (λ o. SoundAt c (o .after)) (settings c) reading st ok
       (λ r. sound-opening c (failing (settings c) reading st) (recorded-held true reading (failing (settings c) reading st .run) r) (settings c) reading)
       (λ r. recorded-held true reading (failing (settings c) reading st .run) r)
-  sound-closed reading (abort t) = ok
-  sound-closed reading (traitAbort t) = ok
+
+  pub sound-settled : (reading : ℕ) (t : Ticket) (good : Bool) → SoundAt c (settled (settings c) reading t good st .after)
+  sound-settled reading t good =
+      settled-cases (λ o. SoundAt c (o .after)) (settings c) reading st t good ok (sound-half reading t good) (λ h. sound-closed reading good)
+
+  pub sound-aborted : (t : Ticket) (trait : Bool) → SoundAt c (aborted t trait st)
+  sound-aborted t trait = aborted-cases (SoundAt c) t trait st ok (λ h. sound-counting 1 (bit trait) 0 h (omega (arith, shared c st ok .successes)))
 
 pub sound-finish : (c : Config) (reading : ℕ) (call : Call) (st : State) → SoundAt c st → SoundAt c (finish (settings c) reading call st .after)
-sound-finish c reading call st ok =
-    finish-cases (λ o. SoundAt c (o .after)) (settings c) reading st call ok (sound-half c st ok reading call) (λ h. sound-closed c st ok reading call)
+sound-finish c reading (success t) st ok = sound-settled c st ok reading t true
+sound-finish c reading (failure t) st ok = sound-settled c st ok reading t false
+sound-finish c reading (abort t) st ok = sound-aborted c st ok t false
+sound-finish c reading (traitAbort t) st ok = sound-aborted c st ok t true
 
 -- a sequence of them
-pub sound-run : (c : Config) (reading : ℕ) (cs : List Call) (st : State) → SoundAt c st → SoundAt c (run (settings c) reading cs st .after)
-unfolding run
-sound-run c reading [] st ok = ok
-sound-run c reading (call ∷ cs) st ok = sound-run c reading cs (finish (settings c) reading call st .after) (sound-finish c reading call st ok)
+pub sound-sequence : (c : Config) (reading : ℕ) (cs : List Call) (st : State) → SoundAt c st → SoundAt c (sequence (settings c) reading cs st .after)
+unfolding sequence
+sound-sequence c reading [] st ok = ok
+sound-sequence c reading (call ∷ cs) st ok = sound-sequence c reading cs (finish (settings c) reading call st .after) (sound-finish c reading call st ok)
 
 -- ---- the other calls
 module _ (c : Config) (st : State) (ok : SoundAt c st) where
@@ -200,8 +191,8 @@ module _ (c : Config) (st : State) (ok : SoundAt c st) where
   unfolding manual
   sound-manual reading good =
       probe-cases (λ (o : Outcome). SoundAt c (o .after)) st
-      (λ h. sound-finish c reading (settling (ticketOf st true) good) (counting 0 1 0 st) (sound-counting c st ok 0 1 0 h (omega (arith, shared c st ok .successes))))
-      (sound-finish c reading (settling (ticketOf st false) good) st ok)
+      (λ h. sound-settled c (counting 0 1 0 st) (sound-counting c st ok 0 1 0 h (omega (arith, shared c st ok .successes))) reading (ticketOf st true) good)
+      (sound-settled c st ok reading (ticketOf st false) good)
 
 -- an admission's state, if it is granted, is sound
 abbrev pub SoundGrant : Config → Admitted → Type 0
@@ -212,7 +203,7 @@ SoundGrant c (shed ms) = Unit {0}
 sound-via : (c : Config) (trait : Bool) (t : Ticket) (st : State) → SoundAt c st → (t .probe ≡ true → st .state ≡ HalfOpen) → SoundGrant c (viaTrait trait (granted t st))
 sound-via c false t st ok h = ok
 sound-via c true t st ok h =
-    if-cases (SoundAt c) (t .probe) {a = noted st} {b = st} (λ e. sound-counts c st ok _ _ _ (h e) (shared c st ok .inflight) (shared c st ok .successes)) (λ e. ok)
+    if-cases (SoundAt c) (t .probe) {a = noted st} {b = st} (λ e. sound-counts c st ok (oneMoreTraitProbe (st .counts)) (h e) (shared c st ok .inflight) (shared c st ok .successes)) (λ e. ok)
 
 module _ (c : Config) (st : State) (ok : SoundAt c st) where
   pub sound-admitAs : (trait : Bool) (reading : ℕ) → SoundGrant c (admitAs trait (settings c) reading st)
@@ -223,7 +214,7 @@ module _ (c : Config) (st : State) (ok : SoundAt c st) where
       tt
       (λ x y i.
       let h : st .state ≡ HalfOpen = omega (arith, shared c st ok .code) in
-      sound-via c trait (ticketOf st true) (withCounts (st .inflight + 1) (st .traitProbes) (st .successes) st) (sound-counts c st ok _ _ _ h (omega arith) (shared c st ok .successes)) (λ e. h))
+      sound-via c trait (ticketOf st true) (withCounts (oneMoreTrial (st .counts)) st) (sound-counts c st ok (oneMoreTrial (st .counts)) h (omega arith) (shared c st ok .successes)) (λ e. h))
       tt
 
 -- ---- the entry points
@@ -236,7 +227,7 @@ pub sound-reset : Keeps (λ s st. reset st)
 sound-reset c st ok = sound-closing c st ok
 
 pub sound-cancel : (t : Ticket) → Keeps (cancel t)
-sound-cancel t c st ok = sound-finish c 0 (abort t) st ok
+sound-cancel t c st ok = sound-aborted c st ok t false
 
 pub sound-refund : (cost : ℕ) → Keeps (refund cost)
 sound-refund cost c st ok = sound-released c st ok
@@ -251,29 +242,29 @@ sound-admission trait reading c st ok = go (admitAs trait (settings c) reading s
 pub sound-tryAdmit : (inner : Decision) (capacity reading : ℕ) → Keeps (tryAdmit inner capacity reading)
 sound-tryAdmit inner capacity reading c st ok = go inner (admit (settings c) reading st) (sound-admitAs c st ok false reading)
   where
-    go : (inner : Decision) (a : Admitted) → SoundGrant c (viaTrait false a) → SoundAt c (tryInner inner capacity reading (settings c) a st .after)
+    go : (inner : Decision) (a : Admitted) → SoundGrant c (viaTrait false a) → SoundAt c (tryInner inner capacity a st .after)
     go Acquired (granted t next) h = h
-    go (Retry d) (granted t next) h = sound-finish c reading (abort t) next h
-    go Impossible (granted t next) h = sound-finish c reading (abort t) next h
+    go (Retry d) (granted t next) h = sound-aborted c next h t false
+    go Impossible (granted t next) h = sound-aborted c next h t false
     go inner (shed ms) h = ok
 
 -- an inner reply handed on, after a trait abort where nothing was acquired
-sound-handedOn : (c : Config) (acquired : Bool) (told : Told) (reading : ℕ) (t : Ticket) (st : State) → SoundAt c st → SoundAt c (handedOn acquired told reading (settings c) t st .after)
-sound-handedOn c true told reading t st ok = ok
-sound-handedOn c false told reading t st ok = sound-finish c reading (traitAbort t) st ok
+sound-handedOn : (c : Config) (acquired : Bool) (told : Told) (t : Ticket) (st : State) → SoundAt c st → SoundAt c (handedOn acquired told t st .after)
+sound-handedOn c true told t st ok = ok
+sound-handedOn c false told t st ok = sound-aborted c st ok t true
 
 pub sound-acquireCost : (inner : Decision) (reading : ℕ) → Keeps (acquireCost inner reading)
 sound-acquireCost inner reading c st ok = go (admitAs true (settings c) reading st) (sound-admitAs c st ok true reading)
   where
-    go : (a : Admitted) → SoundGrant c a → SoundAt c (acquireInner inner reading (settings c) a st .after)
-    go (granted t next) h = sound-handedOn c (isAcquired inner) _ reading t next h
+    go : (a : Admitted) → SoundGrant c a → SoundAt c (acquireInner inner a st .after)
+    go (granted t next) h = sound-handedOn c (isAcquired inner) (decided inner) t next h
     go (shed ms) h = ok
 
 pub sound-reserve : (inner : Reservation) (reading : ℕ) → Keeps (reserve inner reading)
 sound-reserve inner reading c st ok = go (admitAs true (settings c) reading st) (sound-admitAs c st ok true reading)
   where
-    go : (a : Admitted) → SoundGrant c a → SoundAt c (reserveInner inner reading (settings c) a st .after)
-    go (granted t next) h = sound-handedOn c (isReserved inner) _ reading t next h
+    go : (a : Admitted) → SoundGrant c a → SoundAt c (reserveInner inner a st .after)
+    go (granted t next) h = sound-handedOn c (isReserved inner) (reserved inner) t next h
     go (shed ms) h = ok
 
 -- ---- a call that is refused changes nothing
@@ -284,25 +275,33 @@ QuietOrFull o st = (o .told ≡ tell 0 []) ⊎ ((st .state ≡ Closed) × (o ≡
 
 module _ (s : Settings) (reading : ℕ) where
   -- in Closed only a failure is refused
-  full-closed : (call : Call) (st : State) → st .state ≡ Closed → QuietOrFull (inClosed s reading call st) st
+  full-closed : (good : Bool) (st : State) → st .state ≡ Closed → QuietOrFull (inClosed s reading good st) st
   unfolding inClosed
-  full-closed (success t) st h = inl refl
-  full-closed (failure t) st h = failure-cases (λ o. QuietOrFull o st) s reading st t (inr (h, refl)) (λ r. inl refl) (λ r. inl refl)
-  full-closed (abort t) st h = inl refl
-  full-closed (traitAbort t) st h = inl refl
+  full-closed true st h = inl refl
+  full-closed false st h = failure-cases (λ o. QuietOrFull o st) s reading st (inr (h, refl)) (λ r. inl refl) (λ r. inl refl)
 
-  -- a finishing call is of one of the two kinds
+  -- a settle is of one of the two kinds
+  quiet-settled : (t : Ticket) (good : Bool) (st : State) → QuietOrFull (settled s reading t good st) st
+  quiet-settled t good st = settled-cases (λ o. QuietOrFull o st) s reading st t good (inl refl) (λ h. inl refl) (full-closed good st)
+
+  -- so is a finishing call
   pub quiet-or-full : (call : Call) (st : State) → QuietOrFull (finish s reading call st) st
-  quiet-or-full call st = finish-cases (λ o. QuietOrFull o st) s reading st call (inl refl) (λ h. inl refl) (full-closed call st)
+  quiet-or-full (success t) st = quiet-settled t true st
+  quiet-or-full (failure t) st = quiet-settled t false st
+  quiet-or-full (abort t) st = inl refl
+  quiet-or-full (traitAbort t) st = inl refl
+
+  unmoved : (o : Outcome) (st : State) → QuietOrFull o st → o .told .number ≢ 0 → o .after ≡ st
+  unmoved o st (inl e) n = absurd (n (ap (λ (t : Told). t .number) e))
+  unmoved o st (inr e) n = ap (λ (x : Outcome). x .after) (e .1)
 
   pub refused-unchanged : (call : Call) (st : State) → finish s reading call st .told .number ≢ 0 → finish s reading call st .after ≡ st
-  refused-unchanged call st n =
-      ⊎-elim (λ e. absurd (n (ap (λ (t : Told). t .number) e))) (λ e. ap (λ (o : Outcome). o .after) (e .1)) (quiet-or-full call st)
+  refused-unchanged call st n = unmoved (finish s reading call st) st (quiet-or-full call st) n
 
   -- a manual outcome that uses up a trait probe is in HalfOpen, and there nothing is refused
   pub refused-manual : (good : Bool) (st : State) → manual s reading good st .told .number ≢ 0 → manual s reading good st .after ≡ st
   unfolding manual
   refused-manual good st =
       probe-cases (λ (o : Outcome). o .told .number ≢ 0 → o .after ≡ st) st
-      (λ h n. ⊎-elim (λ e. absurd (n (ap (λ (t : Told). t .number) e))) (λ e. absurd (omega (arith, e .0))) (quiet-or-full (settling (ticketOf st true) good) (counting 0 1 0 st)))
-      (refused-unchanged (settling (ticketOf st false) good) st)
+      (λ h n. ⊎-elim (λ e. absurd (n (ap (λ (t : Told). t .number) e))) (λ e. absurd (omega (arith, e .0))) (quiet-settled (ticketOf st true) good (counting 0 1 0 st)))
+      (λ n. unmoved (settled s reading (ticketOf st false) good st) st (quiet-settled (ticketOf st false) good st) n)

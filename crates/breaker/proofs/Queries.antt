@@ -1,7 +1,7 @@
--- Each answer of still_admits and of making a breaker, from the tests that led to it. Assumes nothing.
+-- Each answer of making a breaker, from the tests that led to it. Assumes nothing.
 use mathlib.Core.Path.{_≡_, sym, ap, _∙_}
 use mathlib.Core.List.{List, []}
-use Prim.Native.Nat.{ℕ, _-_}
+use Prim.Native.Nat.{ℕ}
 use lib.ListN.{length}
 use borrow.Author.Tests.{eq-eqb, ne-eqb}
 use Rattle.error.specs.Told.{tell, refused}
@@ -14,30 +14,17 @@ use Rattle.trip.specs.declared.Built.the-variants.{Made, Refused}
 use Rattle.trip.specs.declared.CircuitBreakerBuilder.{CircuitBreakerBuilder}
 use Rattle.trip.specs.Settings.{builtOf, builtTold}
 use Rattle.trip.proofs.OneToOne.{built-one}
-use Rattle.breaker.specs.declared.Ticket.{Ticket}
+use Rattle.breaker.specs.declared.Counts.{Counts}
 use Rattle.breaker.specs.declared.Breaker.{Breaker}
-use Rattle.breaker.specs.Record.{State, Closed, Open, stored, state}
-use Rattle.breaker.specs.Rules.{stillAdmits, sheds}
+use Rattle.breaker.specs.Record.{stored}
+use Rattle.breaker.specs.Rules.{noCounts}
 use Rattle.breaker.specs.Calls.{after, fresh, put, built}
 
--- ---- still_admits
-module _ (reading : ℕ) (t : Ticket) (st : State) where
-  pub still-same : t .generation ≡ st .generation → tell 0 [] ≡ stillAdmits reading t st
-  unfolding stillAdmits
-  still-same g = simp (eq-eqb _ _ g)
-
-  module _ (n : t .generation ≡ st .generation → ⊥) where
-    pub still-closed : st .state ≡ Closed → tell 0 [] ≡ stillAdmits reading t st
-    unfolding stillAdmits
-    still-closed k = simp (ne-eqb _ _ n, eq-eqb _ _ k)
-
-    pub still-open : (st .state ≡ Closed → ⊥) → st .state ≡ Open → sheds (st .openUntil - reading) ≡ stillAdmits reading t st
-    unfolding stillAdmits
-    still-open m k = simp (ne-eqb _ _ n, ne-eqb _ _ m, eq-eqb _ _ k)
-
-    pub still-half : (st .state ≡ Closed → ⊥) → (st .state ≡ Open → ⊥) → sheds 0 ≡ stillAdmits reading t st
-    unfolding stillAdmits
-    still-half m k = simp (ne-eqb _ _ n, ne-eqb _ _ m, ne-eqb _ _ k)
+-- a fresh record, with what is counted
+pub fresh-with : (c : Config) (x : Counts) (places : List ℕ) → x ≡ noCounts
+    → after (tell 0 []) (record { config = c; shared = record { state = 0; generation = 0; run = 0; counts = x; «open_until» = 0; len = 0 } }) places ≡ after (tell 0 []) (stored c fresh) places
+fresh-with c x places e =
+    ap (λ (y : Counts). after (tell 0 []) (record { config = c; shared = record { state = 0; generation = 0; run = 0; counts = y; «open_until» = 0; len = 0 } }) places) e
 
 -- ---- making a breaker
 module _ (builder : CircuitBreakerBuilder) (b : Breaker) (s : List ℕ) where

@@ -1,15 +1,16 @@
 -- Laws on the record: what is stored and what it means, and what a sound one has. Assumes nothing.
 --     sound→         the test passes: the facts of a sound breaker
 --     →sound         and back, for a state
+--     same-values    a record is the numbers that document 01 lists
 --     stored-state   a sound record is its state, stored; state-stored: a stored state is the state of what was stored
 use mathlib.Core.Path.{_≡_, refl, sym, ap}
 use mathlib.Core.Bool.{Bool, true, false, _&&_, _||_}
 use mathlib.Core.Logic.{_⊎_, inl, inr}
-use mathlib.Core.List.{List}
+use mathlib.Core.List.{List, map}
 use Prim.Native.Nat.{ℕ, _≤_, _<_}
 use native.Mathlib.Omega.{arith}
 use lib.Dec.{leb, ltb, eqb}
-use lib.ListN.{length}
+use lib.ListN.{length, getD}
 use lib.Seq.{length-take-le}
 use borrow.Author.Tests.{leb-true, ltb-true, eqb-true, le-leb, lt-ltb, eq-eqb}
 use Rattle.history.specs.Items.{view, padded, soundList}
@@ -18,9 +19,36 @@ use Rattle.history.proofs.Sound as List·
 use lib.Ieee.{binary64, ofBits}
 use Rattle.trip.specs.declared.Config.{Config}
 use Rattle.trip.specs.Settings.{zeroRatio, oneRatio}
+use Rattle.breaker.specs.declared.Counts.{Counts}
 use Rattle.breaker.specs.declared.Shared.{Shared}
 use Rattle.breaker.specs.declared.Breaker.{Breaker}
-use Rattle.breaker.specs.Record.{State, HalfOpen, state, stored, soundPolicy, soundConfig, soundShared, itemsOf, sound}
+use Rattle.breaker.specs.Record.{Field, recordFields, State, HalfOpen, state, stored, soundPolicy, soundConfig, isIdle, soundShared, itemsOf, sound}
+
+-- ---- the numbers of a record
+
+abbrev values : Breaker → List ℕ
+values b = map (λ (f : Field). f .value b) recordFields
+
+ofValues : List ℕ → Breaker
+ofValues vs =
+    let at : ℕ → ℕ = λ i. getD vs i 0 in
+    record {
+      config = record { kind = at 0; limit = at 1; «ratio_bits» = at 2; «min_calls» = at 3; «period_ms» = at 4; «cooldown_ms» = at 5; trials = at 6; required = at 7 };
+      shared =
+          record {
+            state = at 8;
+            generation = at 9;
+            run = at 10;
+            counts = record { inflight = at 11; «trait_probes» = at 12; successes = at 13 };
+            «open_until» = at 14;
+            len = at 15;
+          };
+    }
+
+-- they are all of it
+pub same-values : (b b′ : Breaker) → values b ≡ values b′ → b ≡ b′
+unfolding ofValues
+same-values b b′ e = ap ofValues e
 
 -- ---- the settings
 pub record SoundConfig (c : Config) : Type 0 where
@@ -36,52 +64,61 @@ config→ c e =
     record { policy = p .0; some = leb-true 1 (c .required) (q .0); most = leb-true (c .required) (c .trials) (q .1) }
 
 -- ---- the changing fields
+
+-- nothing is counted
+abbrev pub Idle : Counts → Type 0
+Idle x = (x .inflight ≡ 0) × (x .«trait_probes» ≡ 0) × (x .successes ≡ 0)
+
 pub record SoundShared (c : Config) (h : Shared) : Type 0 where
   pub code : h .state ≤ 2
-  pub inflight : h .inflight ≤ c .trials
-  pub successes : h .successes < c .required
-  pub idle : (h .state ≡ HalfOpen) ⊎ ((h .inflight ≡ 0) × (h .«trait_probes» ≡ 0) × (h .successes ≡ 0))
+  pub inflight : h .counts .inflight ≤ c .trials
+  pub successes : h .counts .successes < c .required
+  pub idle : (h .state ≡ HalfOpen) ⊎ Idle (h .counts)
 
-idle→ : (h : Shared) → (eqb (h .state) HalfOpen || (eqb (h .inflight) 0 && (eqb (h .«trait_probes») 0 && eqb (h .successes) 0))) ≡ true
-    → (h .state ≡ HalfOpen) ⊎ ((h .inflight ≡ 0) × (h .«trait_probes» ≡ 0) × (h .successes ≡ 0))
-idle→ h e = go (eqb (h .state) HalfOpen) refl e
+idle→ : (x : Counts) → isIdle x ≡ true → Idle x
+idle→ x e =
+    let p = and-split (eqb (x .inflight) 0) (eqb (x .«trait_probes») 0 && eqb (x .successes) 0) e in
+    let q = and-split (eqb (x .«trait_probes») 0) (eqb (x .successes) 0) (p .1) in
+    (eqb-true (x .inflight) 0 (p .0), eqb-true (x .«trait_probes») 0 (q .0), eqb-true (x .successes) 0 (q .1))
+
+→idle : (x : Counts) → Idle x → isIdle x ≡ true
+→idle x z = simp (z .0, z .1, z .2)
+
+half-or : (n : ℕ) (x : Counts) → (eqb n HalfOpen || isIdle x) ≡ true → (n ≡ HalfOpen) ⊎ Idle x
+half-or n x e = go (eqb n HalfOpen) refl e
   where
-    go : (b : Bool) → eqb (h .state) HalfOpen ≡ b → (b || (eqb (h .inflight) 0 && (eqb (h .«trait_probes») 0 && eqb (h .successes) 0))) ≡ true
-        → (h .state ≡ HalfOpen) ⊎ ((h .inflight ≡ 0) × (h .«trait_probes» ≡ 0) × (h .successes ≡ 0))
-    go true i e = inl (eqb-true (h .state) HalfOpen i)
-    go false i e =
-        let p = and-split (eqb (h .inflight) 0) (eqb (h .«trait_probes») 0 && eqb (h .successes) 0) e in
-        let q = and-split (eqb (h .«trait_probes») 0) (eqb (h .successes) 0) (p .1) in
-        inr (eqb-true (h .inflight) 0 (p .0), eqb-true (h .«trait_probes») 0 (q .0), eqb-true (h .successes) 0 (q .1))
+    go : (b : Bool) → eqb n HalfOpen ≡ b → (b || isIdle x) ≡ true → (n ≡ HalfOpen) ⊎ Idle x
+    go true i e = inl (eqb-true n HalfOpen i)
+    go false i e = inr (idle→ x e)
 
 pub shared→ : (c : Config) (h : Shared) → soundShared c h ≡ true → SoundShared c h
 unfolding soundShared
 shared→ c h e =
-    let i = eqb (h .state) HalfOpen || (eqb (h .inflight) 0 && (eqb (h .«trait_probes») 0 && eqb (h .successes) 0)) in
-    let p = and-split (leb (h .state) 2) (leb (h .inflight) (c .trials) && (ltb (h .successes) (c .required) && i)) e in
-    let q = and-split (leb (h .inflight) (c .trials)) (ltb (h .successes) (c .required) && i) (p .1) in
-    let r = and-split (ltb (h .successes) (c .required)) i (q .1) in
+    let x = h .counts in
+    let i = eqb (h .state) HalfOpen || isIdle x in
+    let p = and-split (leb (h .state) 2) (leb (x .inflight) (c .trials) && (ltb (x .successes) (c .required) && i)) e in
+    let q = and-split (leb (x .inflight) (c .trials)) (ltb (x .successes) (c .required) && i) (p .1) in
+    let r = and-split (ltb (x .successes) (c .required)) i (q .1) in
     record {
       code = leb-true (h .state) 2 (p .0);
-      inflight = leb-true (h .inflight) (c .trials) (q .0);
-      successes = ltb-true (h .successes) (c .required) (r .0);
-      idle = idle→ h (r .1);
+      inflight = leb-true (x .inflight) (c .trials) (q .0);
+      successes = ltb-true (x .successes) (c .required) (r .0);
+      idle = half-or (h .state) x (r .1);
     }
 
 pub →shared : (c : Config) (h : Shared) → SoundShared c h → soundShared c h ≡ true
 unfolding soundShared
 →shared c h f =
-    simp (le-leb (h .state) 2 (f .code), le-leb (h .inflight) (c .trials) (f .inflight), lt-ltb (h .successes) (c .required) (f .successes))
+    simp (le-leb (h .state) 2 (f .code), le-leb (h .counts .inflight) (c .trials) (f .inflight), lt-ltb (h .counts .successes) (c .required) (f .successes))
     (go (f .idle))
   where
-    go : (h .state ≡ HalfOpen) ⊎ ((h .inflight ≡ 0) × (h .«trait_probes» ≡ 0) × (h .successes ≡ 0))
-        → (eqb (h .state) HalfOpen || (eqb (h .inflight) 0 && (eqb (h .«trait_probes») 0 && eqb (h .successes) 0))) ≡ true
+    either : (b : Bool) → Idle (h .counts) → (b || isIdle (h .counts)) ≡ true
+    either true z = refl
+    either false z = →idle (h .counts) z
+
+    go : (h .state ≡ HalfOpen) ⊎ Idle (h .counts) → (eqb (h .state) HalfOpen || isIdle (h .counts)) ≡ true
     go (inl e) = simp (eq-eqb (h .state) HalfOpen e)
-    go (inr z) = other (eqb (h .state) HalfOpen)
-      where
-        other : (b : Bool) → (b || (eqb (h .inflight) 0 && (eqb (h .«trait_probes») 0 && eqb (h .successes) 0))) ≡ true
-        other true = refl
-        other false = simp (z .0, z .1, z .2)
+    go (inr z) = either (eqb (h .state) HalfOpen) z
 
 -- ---- the whole
 pub record Sound (b : Breaker) (s : List ℕ) : Type 0 where
@@ -112,14 +149,14 @@ module _ (b : Breaker) (s : List ℕ) (ok : sound b s ≡ true) where
   pub stored-state : b ≡ stored (b .config) (state b s)
   stored-state =
       let n : b .shared .len ≡ length (view (b .shared .len) s) = sym (length-take-le (b .shared .len) s (omega (arith, facts .le, facts .places))) in
-      ap (λ (n : ℕ). record { config = b .config; shared = record { state = b .shared .state; generation = b .shared .generation; run = b .shared .run; inflight = b .shared .inflight; «trait_probes» = b .shared .«trait_probes»; successes = b .shared .successes; «open_until» = b .shared .«open_until»; len = n } }) n
+      ap (λ (n : ℕ). record { config = b .config; shared = record { state = b .shared .state; generation = b .shared .generation; run = b .shared .run; counts = b .shared .counts; «open_until» = b .shared .«open_until»; len = n } }) n
 
   pub padded-state : s ≡ padded (state b s .list)
   padded-state = facts .isPadded
 
 pub state-stored : (c : Config) (st : State) → state (stored c st) (padded (st .list)) ≡ st
 state-stored c st =
-    ap (λ (xs : List ℕ). record { state = st .state; generation = st .generation; run = st .run; inflight = st .inflight; traitProbes = st .traitProbes; successes = st .successes; openUntil = st .openUntil; list = xs })
+    ap (λ (xs : List ℕ). record { state = st .state; generation = st .generation; run = st .run; counts = st .counts; openUntil = st .openUntil; list = xs })
     (List·.view-padded (st .list))
 
 -- ---- the code's 0.0 and 1.0

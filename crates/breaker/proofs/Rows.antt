@@ -14,7 +14,7 @@ use Rattle.breaker.specs.declared.Delay.{Delay}
 use Rattle.breaker.specs.declared.Breaker.{Breaker}
 use Rattle.breaker.specs.declared.Decision.the-variants.{Retry, Impossible}
 use Rattle.breaker.specs.Record.{Settings, State, Closed, HalfOpen, Open, settings, state, soundConfig, soundShared, sound}
-use Rattle.breaker.specs.Rules.{Outcome, outcome, failure, inClosed, act, finish, admit}
+use Rattle.breaker.specs.Rules.{Outcome, outcome, noCounts, inClosed, settled, aborted, admit}
 use Rattle.breaker.specs.Calls.{after, kept, onSound, admission, tryAdmit}
 use Rattle.breaker.proofs.Guard.{guarded-storage, guarded-unsound}
 
@@ -34,7 +34,7 @@ row4 rule b s p k = sym (guarded-unsound (λ r. after (refused r) b s) _ b s p (
 
 -- 5: 4,096 times, none of which the cutoff 0 evicts; all is left, the run too
 abbrev watching : List ℕ → State
-watching ts = record { state = Closed; generation = 0; run = 9; inflight = 0; traitProbes = 0; successes = 0; openUntil = 0; list = ts }
+watching ts = record { state = Closed; generation = 0; run = 9; counts = noCounts; openUntil = 0; list = ts }
 
 abbrev window : Settings
 window = record { policy = Windowed 3 100; cooldown = 1; trials = 1; required = 1 }
@@ -45,13 +45,13 @@ kept-all [] = refl
 kept-all (t ∷ ts) = rw (le-ltb t 0 (omega arith))
 
 pub row5 : (ts : List ℕ) (p : Bool) → length ts ≡ 4096
-    → finish window 60 (failure (record { generation = 0; probe = p })) (watching ts) ≡ outcome (refused Full) (watching ts)
-unfolding finish act inClosed
+    → settled window 60 (record { generation = 0; probe = p }) false (watching ts) ≡ outcome (refused Full) (watching ts)
+unfolding settled inClosed
 row5 ts p l = rw (kept-all ts, le-leb 4096 (length ts) (omega arith))
 
 -- 6: Open until 1,030, at 1,029: a delay of 1; the record is left
 abbrev shut : State
-shut = record { state = Open; generation = 7; run = 2; inflight = 0; traitProbes = 0; successes = 0; openUntil = 1030; list = [] }
+shut = record { state = Open; generation = 7; run = 2; counts = noCounts; openUntil = 1030; list = [] }
 
 pub row6 : (s : Settings) (trait : Bool) → admission trait 1029 s shut ≡ outcome (tell 6 (1 ∷ [])) shut
 unfolding admit
@@ -60,12 +60,12 @@ row6 s false = refl
 
 -- 7 and 8: at 1,030 the admission goes HalfOpen with a probe, which the inner reply aborts; the transition stays
 abbrev tried : State
-tried = record { state = HalfOpen; generation = 8; run = 2; inflight = 0; traitProbes = 0; successes = 0; openUntil = 1030; list = [] }
+tried = record { state = HalfOpen; generation = 8; run = 2; counts = noCounts; openUntil = 1030; list = [] }
 
 pub row7 : (s : Settings) (d : Delay) (capacity : ℕ) → tryAdmit (Retry d) capacity 1030 s shut ≡ outcome (tell 7 []) tried
-unfolding admit finish act
+unfolding admit aborted
 row7 s d capacity = refl
 
 pub row8 : (s : Settings) (capacity : ℕ) → tryAdmit Impossible capacity 1030 s shut ≡ outcome (tell 8 (1 ∷ capacity ∷ [])) tried
-unfolding admit finish act
+unfolding admit aborted
 row8 s capacity = refl

@@ -7,9 +7,10 @@ use lib.Dec.{eqb}
 use borrow.Author.Tests.{eq-eqb, ne-eqb, le-leb, lt-ltb}
 use Rattle.history.specs.Items.{soundList}
 use Rattle.trip.specs.declared.Config.{Config}
+use Rattle.breaker.specs.declared.Counts.{Counts}
 use Rattle.breaker.specs.declared.Shared.{Shared}
 use Rattle.breaker.specs.declared.Breaker.{Breaker}
-use Rattle.breaker.specs.Record.{HalfOpen, soundRatio, soundPolicy, soundConfig, soundShared, itemsOf, sound}
+use Rattle.breaker.specs.Record.{HalfOpen, soundRatio, soundPolicy, soundConfig, isIdle, soundShared, itemsOf, sound}
 
 module _ (c : Config) where
   pub consecutive-last : c .kind ≡ 1 → 1 ≤ c .limit → c .«ratio_bits» ≡ 0 → c .«min_calls» ≡ 0 → eqb (c .«period_ms») 0 ≡ soundPolicy c
@@ -26,10 +27,13 @@ module _ (c : Config) where
   unfolding soundPolicy
   windowed-last n m k l u r = simp (ne-eqb _ _ n, ne-eqb _ _ m, eq-eqb _ _ k, le-leb _ _ l, le-leb _ _ u, eq-eqb _ _ r)
 
-  pub shared-last : (h : Shared) → h .state ≤ 2 → h .inflight ≤ c .trials → h .successes < c .required → (h .state ≡ HalfOpen → ⊥) → h .inflight ≡ 0
-      → h .«trait_probes» ≡ 0 → eqb (h .successes) 0 ≡ soundShared c h
+  pub shared-last : (h : Shared) → h .state ≤ 2 → h .counts .inflight ≤ c .trials → h .counts .successes < c .required → (h .state ≡ HalfOpen → ⊥)
+      → isIdle (h .counts) ≡ soundShared c h
   unfolding soundShared
-  shared-last h s i g n z t = simp (le-leb _ _ s, le-leb _ _ i, lt-ltb _ _ g, ne-eqb _ _ n, eq-eqb _ _ z, eq-eqb _ _ t)
+  shared-last h s i g n = simp (le-leb _ _ s, le-leb _ _ i, lt-ltb _ _ g, ne-eqb _ _ n)
+
+pub idle-last : (x : Counts) → x .inflight ≡ 0 → x .«trait_probes» ≡ 0 → eqb (x .successes) 0 ≡ isIdle x
+idle-last x z t = simp (eq-eqb _ _ z, eq-eqb _ _ t)
 
 pub sound-last : (b : Breaker) (s : List ℕ) → soundPolicy (b .config) ≡ true → 1 ≤ b .config .required → b .config .required ≤ b .config .trials
     → soundShared (b .config) (b .shared) ≡ true → soundList (itemsOf (b .config)) (b .shared .len) s ≡ sound b s

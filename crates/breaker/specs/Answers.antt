@@ -1,5 +1,6 @@
 -- "What a caller is told": for each answer enum, document 01's number and values of each case.
 use Prim.Native.Nat.{ℕ}
+use mathlib.Core.Bool.{Bool, true, false}
 use mathlib.Core.List.{List, [], _∷_}
 use Rattle.error.specs.Told.{Told, tell, nothing, refused}
 use Rattle.error.specs.Choice.{bit}
@@ -17,6 +18,8 @@ use Rattle.breaker.specs.declared.Notice.{Notice}
 use Rattle.breaker.specs.declared.Notice.the-variants as Notice·is
 use Rattle.breaker.specs.declared.Decision.{Decision}
 use Rattle.breaker.specs.declared.Decision.the-variants as Decision·is
+use Rattle.breaker.specs.declared.RetryAfter.{RetryAfter}
+use Rattle.breaker.specs.declared.RetryAfter.the-variants as RetryAfter·is
 use Rattle.breaker.specs.declared.Decided.{Decided}
 use Rattle.breaker.specs.declared.Decided.the-variants as Decided·is
 use Rattle.breaker.specs.declared.Reservation.{Reservation}
@@ -32,7 +35,7 @@ use Rattle.breaker.specs.declared.Counted.the-variants as Counted·is
 abbrev pub ticketValues : Ticket → List ℕ
 ticketValues t = t .generation ∷ bit (t .probe) ∷ []
 
--- a delay of so many milliseconds
+-- the delay of so many milliseconds
 abbrev pub delayOf : ℕ → Delay
 delayOf ms = record { ms = ms }
 
@@ -49,6 +52,18 @@ decisionValues Decision·is.Impossible = 3 ∷ []
 abbrev pub reservationValues : Reservation → List ℕ
 reservationValues (Reservation·is.Wait d) = 1 ∷ delayValues d
 reservationValues Reservation·is.Nothing = 0 ∷ []
+
+-- ---- `is_acquired` and `retry_after` of decision.rs
+
+abbrev pub isAcquired : Decision → Bool
+isAcquired Decision·is.Acquired = true
+isAcquired (Decision·is.Retry d) = false
+isAcquired Decision·is.Impossible = false
+
+abbrev pub retryAfter : Decision → RetryAfter
+retryAfter Decision·is.Acquired = RetryAfter·is.Nothing
+retryAfter (Decision·is.Retry d) = RetryAfter·is.After d
+retryAfter Decision·is.Impossible = RetryAfter·is.Nothing
 
 -- ---- the answers
 

@@ -1,6 +1,6 @@
 -- A batch: a sequence of finishing calls given as slices, and what it leaves. Definitions only.
 use Prim.Native.Nat.{ℕ, zero, suc}
-use mathlib.Core.Bool.{Bool, false, not, _&&_}
+use mathlib.Core.Bool.{Bool, true, false, not, _&&_}
 use mathlib.Core.List.{List, [], _∷_, _++_, map}
 use lib.Dec.{eqb}
 use lib.ListN.{length, getD}
@@ -9,13 +9,16 @@ use Rattle.error.specs.Told.{Told, refused}
 use Rattle.error.specs.declared.Refusal.the-variants.{Storage}
 use Rattle.breaker.specs.declared.Ticket.{Ticket}
 use Rattle.breaker.specs.declared.Breaker.{Breaker}
-use Rattle.breaker.specs.Rules.{Call, done, settling, aborting}
+use Rattle.breaker.specs.Rules.{Call, success, failure, abort, traitAbort, done}
 use Rattle.breaker.specs.Calls.{After, after, kept, guarded}
 use Rattle.breaker.specs.Orders.{inTurn}
 
 -- a settle with success or failure by the mark, or an abort through the trait side or not
 abbrev pub callBy : Ticket → Bool → Bool → Call
-callBy t settles mark = if settles then settling t mark else aborting t mark
+callBy t true true = success t
+callBy t true false = failure t
+callBy t false true = traitAbort t
+callBy t false false = abort t
 
 -- the slices of a sequence: its i-th call has the i-th place of each
 pub record Slices : Type 0 where

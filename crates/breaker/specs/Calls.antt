@@ -1,11 +1,11 @@
 -- The entry points: each tests 3 and 4 (making a breaker: 3, 1, 2), and then does what its rule says. Definitions only.
 use Prim.Native.Nat.{ℕ}
 use mathlib.Core.Bool.{Bool, true, false, not}
-use mathlib.Core.List.{List, [], _∷_}
+use mathlib.Core.List.{List, []}
 use lib.Dec.{eqb}
 use lib.ListN.{length}
 use Rattle.error.specs.Choice.{if_then_else_}
-use Rattle.error.specs.Told.{Told, tell, refused}
+use Rattle.error.specs.Told.{Told, refused}
 use Rattle.error.specs.declared.Refusal.{Refusal}
 use Rattle.error.specs.declared.Refusal.the-variants.{Storage, Unsound}
 use Rattle.history.specs.Items.{padded, failures}
@@ -23,9 +23,15 @@ use Rattle.breaker.specs.declared.Decision.{Decision}
 use Rattle.breaker.specs.declared.Decision.the-variants.{Acquired, Retry, Impossible}
 use Rattle.breaker.specs.declared.Reservation.{Reservation}
 use Rattle.breaker.specs.declared.Reservation.the-variants.{Wait, Nothing}
+use Rattle.breaker.specs.declared.Standing.{Standing}
+use Rattle.breaker.specs.declared.Standing.the-variants as Standing·is
+use Rattle.breaker.specs.declared.Notice.the-variants.{Refund}
+use Rattle.breaker.specs.declared.Decided.the-variants as Decided·is
+use Rattle.breaker.specs.declared.Reserved.the-variants as Reserved·is
+use Rattle.breaker.specs.declared.Counted.the-variants.{Count}
 use Rattle.breaker.specs.Record.{Settings, State, Closed, settings, state, stored, sound}
-use Rattle.breaker.specs.Answers.{decisionValues, reservationValues, admissionTold, triedTold, delayOf}
-use Rattle.breaker.specs.Rules.{Outcome, outcome, done, Admitted, granted, shed, admit, admitAs, finish, abort, traitAbort, settling, aborting, released, sheds}
+use Rattle.breaker.specs.Answers.{delayOf, isAcquired, admissionTold, triedTold, standingTold, noticeTold, decidedTold, reservedTold, countedTold}
+use Rattle.breaker.specs.Rules.{Outcome, outcome, done, noCounts, Admitted, granted, shed, admit, admitAs, settled, aborted, released, Verdict, admits, refuses, stillAdmits}
 
 -- ---- what a call leaves: what it told, the record, and every place
 
@@ -44,7 +50,8 @@ guarded refusal answer b s =
     else if not (sound b s) then refusal Unsound
     else answer
 
--- a state is stored as its fields, its list and zeros
+-- a state is stored as its fields, its list and zeros; a sound record and its places are their state, stored (`stored-state` and
+-- `padded-state` of proofs/Record.antt)
 abbrev pub kept : Config → Outcome → After
 kept c o = after (o .told) (stored c (o .after)) (padded (o .after .list))
 
@@ -59,7 +66,7 @@ asked rule b s = guarded refused (rule (settings (b .config)) (state b s)) b s
 -- ---- making a breaker: 3, then what the builder refuses; Closed, generation 0, every counter and open-until 0, all places 0
 
 abbrev pub fresh : State
-fresh = record { state = Closed; generation = 0; run = 0; inflight = 0; traitProbes = 0; successes = 0; openUntil = 0; list = [] }
+fresh = record { state = Closed; generation = 0; run = 0; counts = noCounts; openUntil = 0; list = [] }
 
 abbrev pub put : Built → Breaker → List ℕ → After
 put (Made c) b s = kept c (done fresh)
@@ -72,66 +79,73 @@ built builder b s = if not (eqb (length s) 4096) then after (refused Storage) b 
 
 abbrev pub answered : Admitted → State → Outcome
 answered (granted t next) st = outcome (admissionTold (Admission·is.Granted t)) next
-answered (shed ms) st = outcome (sheds ms) st
+answered (shed ms) st = outcome (admissionTold (Admission·is.Shed (delayOf ms))) st
 
 abbrev pub admission : Bool → ℕ → Settings → State → Outcome
 admission trait reading s st = answered (admitAs trait s reading st) st
 
 -- `try_admit`: the inner limiter was asked for 1; "ticket aborted", "a transition made by the admission stays"
-abbrev pub tryInner : Decision → ℕ → ℕ → Settings → Admitted → State → Outcome
-tryInner Acquired capacity reading s (granted t next) st = answered (granted t next) st
-tryInner (Retry d) capacity reading s (granted t next) st = outcome (triedTold Tried·is.Retry) (finish s reading (abort t) next .after)
-tryInner Impossible capacity reading s (granted t next) st = outcome (triedTold (Tried·is.Impossible 1 capacity)) (finish s reading (abort t) next .after)
-tryInner inner capacity reading s (shed ms) st = answered (shed ms) st
+abbrev pub tryInner : Decision → ℕ → Admitted → State → Outcome
+tryInner Acquired capacity (granted t next) st = outcome (triedTold (Tried·is.Granted t)) next
+tryInner (Retry d) capacity (granted t next) st = outcome (triedTold Tried·is.Retry) (aborted t false next)
+tryInner Impossible capacity (granted t next) st = outcome (triedTold (Tried·is.Impossible 1 capacity)) (aborted t false next)
+tryInner inner capacity (shed ms) st = outcome (triedTold (Tried·is.Shed (delayOf ms))) st
 
 abbrev pub tryAdmit : Decision → ℕ → ℕ → Settings → State → Outcome
-tryAdmit inner capacity reading s st = tryInner inner capacity reading s (admit s reading st) st
+tryAdmit inner capacity reading s st = tryInner inner capacity (admit s reading st) st
+
+-- `still_admits`
+abbrev pub verdictOf : Verdict → Standing
+verdictOf admits = Standing·is.Admits
+verdictOf (refuses ms) = Standing·is.Shed (delayOf ms)
+
+abbrev pub standing : ℕ → Ticket → Settings → State → Told
+standing reading t s st = standingTold (verdictOf (stillAdmits reading t st))
 
 -- ---- finishing
 
 abbrev pub settle : ℕ → Ticket → Bool → Settings → State → Outcome
-settle reading t good s st = finish s reading (settling t good) st
+settle reading t good s st = settled s reading t good st
 
--- an abort has no reading: the rule reads none
 abbrev pub abortAs : Ticket → Bool → Settings → State → Outcome
-abortAs t trait s st = finish s 0 (aborting t trait) st
+abortAs t trait s st = done (aborted t trait st)
 
 -- "Cancel is an abort plus a notice to refund 1."
 abbrev pub cancel : Ticket → Settings → State → Outcome
-cancel t s st = outcome (tell 0 (1 ∷ [])) (finish s 0 (abort t) st .after)
+cancel t s st = outcome (noticeTold (Refund 1)) (aborted t false st)
 
 -- ---- the trait side: "a shed is a retry with the delay (`reserve`: none). An inner reply that isn't acquired, or an empty reservation,
 -- is handed on after a trait abort."
 
-abbrev pub isAcquired : Decision → Bool
-isAcquired Acquired = true
-isAcquired (Retry d) = false
-isAcquired Impossible = false
-
 abbrev pub retry : ℕ → Decision
 retry ms = Retry (delayOf ms)
 
-abbrev pub handedOn : Bool → Told → ℕ → Settings → Ticket → State → Outcome
-handedOn true told reading s t next = outcome told next
-handedOn false told reading s t next = outcome told (finish s reading (traitAbort t) next .after)
+abbrev pub decided : Decision → Told
+decided d = decidedTold (Decided·is.Is d)
 
-abbrev pub acquireInner : Decision → ℕ → Settings → Admitted → State → Outcome
-acquireInner inner reading s (granted t next) st = handedOn (isAcquired inner) (tell 0 (decisionValues inner)) reading s t next
-acquireInner inner reading s (shed ms) st = outcome (tell 0 (decisionValues (retry ms))) st
+abbrev pub handedOn : Bool → Told → Ticket → State → Outcome
+handedOn acquired told t next = outcome told (if acquired then next else aborted t true next)
+
+abbrev pub acquireInner : Decision → Admitted → State → Outcome
+acquireInner inner (granted t next) st = handedOn (isAcquired inner) (decided inner) t next
+acquireInner inner (shed ms) st = outcome (decided (retry ms)) st
 
 abbrev pub acquireCost : Decision → ℕ → Settings → State → Outcome
-acquireCost inner reading s st = acquireInner inner reading s (admitAs true s reading st) st
+acquireCost inner reading s st = acquireInner inner (admitAs true s reading st) st
 
 abbrev pub isReserved : Reservation → Bool
 isReserved (Wait d) = true
 isReserved Nothing = false
 
-abbrev pub reserveInner : Reservation → ℕ → Settings → Admitted → State → Outcome
-reserveInner inner reading s (granted t next) st = handedOn (isReserved inner) (tell 0 (reservationValues inner)) reading s t next
-reserveInner inner reading s (shed ms) st = outcome (tell 0 (reservationValues Nothing)) st
+abbrev pub reserved : Reservation → Told
+reserved w = reservedTold (Reserved·is.Is w)
+
+abbrev pub reserveInner : Reservation → Admitted → State → Outcome
+reserveInner inner (granted t next) st = handedOn (isReserved inner) (reserved inner) t next
+reserveInner inner (shed ms) st = outcome (reserved Nothing) st
 
 abbrev pub reserve : Reservation → ℕ → Settings → State → Outcome
-reserve inner reading s st = reserveInner inner reading s (admitAs true s reading st) st
+reserve inner reading s st = reserveInner inner (admitAs true s reading st) st
 
 -- "Peek refuses as an admission would, changes nothing, else hands on the inner limiter's answer."
 abbrev pub peeked : Decision → Admitted → Decision
@@ -139,15 +153,15 @@ peeked inner (granted t next) = inner
 peeked inner (shed ms) = retry ms
 
 abbrev pub peek : Decision → ℕ → Settings → State → Told
-peek inner reading s st = tell 0 (decisionValues (peeked inner (admit s reading st)))
+peek inner reading s st = decided (peeked inner (admit s reading st))
 
 -- "Available is the inner count if a peek of cost 0 is acquired, else 0."
 abbrev pub available : Decision → ℕ → ℕ → Settings → State → Told
-available inner count reading s st = tell 0 ((if isAcquired (peeked inner (admit s reading st)) then count else 0) ∷ [])
+available inner count reading s st = countedTold (Count (if isAcquired (peeked inner (admit s reading st)) then count else 0))
 
 -- the trait refund, with its notice to the inner limiter in every state
 abbrev pub refund : ℕ → Settings → State → Outcome
-refund cost s st = outcome (tell 0 (cost ∷ [])) (released st)
+refund cost s st = outcome (noticeTold (Refund cost)) (released st)
 
 -- ---- the board figure: "0 for … another policy"
 
@@ -157,4 +171,4 @@ figure (Ratio window ratio least) xs = boardFigure (failures xs) (length xs)
 figure (Windowed limit period) xs = 0
 
 abbrev pub board : Settings → State → Told
-board s st = tell 0 (figure (s .policy) (st .list) ∷ [])
+board s st = countedTold (Count (figure (s .policy) (st .list)))

@@ -4,7 +4,7 @@
 use Prim.Native.Nat.{ℕ, _+_, _<_}
 use mathlib.Core.Path.{_≡_}
 use mathlib.Core.Logic.{_↔_, _⊎_}
-use mathlib.Core.Bool.{Bool, true, _||_}
+use mathlib.Core.Bool.{Bool, true, not, _||_}
 use mathlib.Core.List.{List, [], _∷_, _++_, tail, List·Permᴰ}
 use lib.Dec.{eqb}
 use Rattle.error.specs.Choice.{if_then_else_}
@@ -17,15 +17,15 @@ use Rattle.breaker.specs.Rules.{next, Call, success, failure, abort, tra
 
 -- ---- a sequence, in turn: each call gets what the last one left
 
-pub record Ran : Type 0 where
+pub record Sequence : Type 0 where
   pub after : State
   pub answers : List Told
 
-unfoldable pub run : Settings → ℕ → List Call → State → Ran
-run s reading [] st = record { after = st; answers = [] }
-run s reading (c ∷ cs) st =
+unfoldable pub sequence : Settings → ℕ → List Call → State → Sequence
+sequence s reading [] st = record { after = st; answers = [] }
+sequence s reading (c ∷ cs) st =
     let o = finish s reading c st in
-    let r = run s reading cs (o .after) in
+    let r = sequence s reading cs (o .after) in
     record { after = r .after; answers = o .told ∷ r .answers }
 
 -- ---- counting calls
@@ -51,34 +51,34 @@ abbrev pub AllOf : ℕ → List Call → Type 0
 AllOf g [] = Unit {0}
 AllOf g (c ∷ cs) = (ticket c .generation ≡ g) × AllOf g cs
 
--- ---- strangers: tickets of neither the present generation nor the next
+-- ---- other generations: tickets of neither the present one nor the next
 
-abbrev pub known : ℕ → Call → Bool
-known g c = eqb (ticket c .generation) g || eqb (ticket c .generation) (next g)
+abbrev pub isOther : ℕ → Call → Bool
+isOther g c = not (eqb (ticket c .generation) g || eqb (ticket c .generation) (next g))
 
 -- the sequence without them
-abbrev pub onlyKnown : ℕ → List Call → List Call
-onlyKnown g [] = []
-onlyKnown g (c ∷ cs) = if known g c then c ∷ onlyKnown g cs else onlyKnown g cs
+abbrev pub withoutOthers : ℕ → List Call → List Call
+withoutOthers g [] = []
+withoutOthers g (c ∷ cs) = if isOther g c then withoutOthers g cs else c ∷ withoutOthers g cs
 
 abbrev pub first : List Told → Told
 first [] = nothing
 first (a ∷ told) = a
 
--- the answers to `onlyKnown g cs`, each put at its call of `cs`, with nothing told to the other calls
+-- the answers to `withoutOthers g cs`, each put at its call of `cs`, with nothing told to the other calls
 abbrev pub putBack : ℕ → List Call → List Told → List Told
 putBack g [] told = []
-putBack g (c ∷ cs) told = if known g c then first told ∷ putBack g cs (tail told) else nothing ∷ putBack g cs told
+putBack g (c ∷ cs) told = if isOther g c then nothing ∷ putBack g cs told else first told ∷ putBack g cs (tail told)
 
 -- ---- the statement
 
 -- no call is a failure, or the successes, with the earlier ones, stay below the required number
 abbrev pub Harmless : Settings → State → List Call → Type 0
-Harmless s st cs = (many fails cs ≡ 0) ⊎ (st .successes + many succeeds cs < s .required)
+Harmless s st cs = (many fails cs ≡ 0) ⊎ (st .counts .successes + many succeeds cs < s .required)
 
 -- the calls in this order, from the record and its storage
-abbrev pub inTurn : ℕ → Breaker → List ℕ → List Call → Ran
-inTurn reading b places cs = run (settings (b .config)) reading cs (state b places)
+abbrev pub inTurn : ℕ → Breaker → List ℕ → List Call → Sequence
+inTurn reading b places cs = sequence (settings (b .config)) reading cs (state b places)
 
 -- "Equal means every field and all 4,096 places."
 pub record Equal (b : Breaker) (st st′ : State) : Type 0 where
@@ -107,9 +107,9 @@ pub record FinishingOrders (reading : ℕ) (b : Breaker) (places : List ℕ) : T
   -- Otherwise some order of them ends Closed and another Open.
   pub otherwise : (cs : List Call) → AllOf (b .shared .generation) cs → ¬ Harmless (settings (b .config)) (state b places) cs →
       SomeOrderEnds reading b places cs Closed × SomeOrderEnds reading b places cs Open
-  -- Strangers, in any sequence on any tickets: without them it ends the same, each of them is told nothing, and no other answer moves.
-  pub strangers : (cs : List Call) →
-      let r = inTurn reading b places (onlyKnown (b .shared .generation) cs) in
+  -- Other generations, in any sequence on any tickets: without them it ends the same, each of them is told nothing, and no other answer moves.
+  pub other-generations : (cs : List Call) →
+      let r = inTurn reading b places (withoutOthers (b .shared .generation) cs) in
       inTurn reading b places cs ≡ record { after = r .after; answers = putBack (b .shared .generation) cs (r .answers) }
 
 -- from any sound HalfOpen record and its storage

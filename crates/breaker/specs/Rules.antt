@@ -1,7 +1,7 @@
 -- "Tickets and delays": what each call does to a state, and what it tells. Every rule is total, on all numbers; the minus of ℕ stops at 0.
 -- Definitions only.
-use Prim.Native.Nat.{ℕ, _+_, _-_, _%_, _^_, min}
-use mathlib.Core.Bool.{Bool, true, false, _&&_, _||_}
+use Prim.Native.Nat.{ℕ, zero, suc, _+_, _-_, _%_, _^_, min}
+use mathlib.Core.Bool.{Bool, true, false, not, _&&_, _||_}
 use mathlib.Core.List.{List, []}
 use lib.Dec.{leb, ltb, eqb}
 use Rattle.error.specs.Choice.{if_then_else_, bit}
@@ -10,9 +10,9 @@ use Rattle.error.specs.declared.Refusal.the-variants.{Full}
 use Rattle.history.specs.Items.{cutoffOf, withOutcome, withTime, withoutExpired}
 use Rattle.history.specs.Change.{full}
 use Rattle.trip.specs.Policy.{Policy, Consecutive, Ratio, Windowed, tripped}
+use Rattle.breaker.specs.declared.Counts.{Counts}
 use Rattle.breaker.specs.declared.Ticket.{Ticket}
 use Rattle.breaker.specs.Record.{Settings, State, Closed, HalfOpen, Open}
-use Rattle.breaker.specs.Answers.{delayOf, shedTold}
 
 -- what a call does: what it tells, and the state after it
 pub record Outcome : Type 0 where
@@ -28,16 +28,13 @@ done st = outcome nothing st
 
 -- ---- the three kinds of change to a state
 
--- inflight, trait probes and successes
-abbrev pub withCounts : ℕ → ℕ → ℕ → State → State
-withCounts inflight traits good st =
+abbrev pub withCounts : Counts → State → State
+withCounts x st =
     record {
       state = st .state;
       generation = st .generation;
       run = st .run;
-      inflight = inflight;
-      traitProbes = traits;
-      successes = good;
+      counts = x;
       openUntil = st .openUntil;
       list = st .list;
     }
@@ -49,9 +46,7 @@ withHistory run list st =
       state = st .state;
       generation = st .generation;
       run = run;
-      inflight = st .inflight;
-      traitProbes = st .traitProbes;
-      successes = st .successes;
+      counts = st .counts;
       openUntil = st .openUntil;
       list = list;
     }
@@ -60,30 +55,57 @@ withHistory run list st =
 abbrev pub next : ℕ → ℕ
 next g = (g + 1) % 2 ^ 64
 
+-- the generation after so many transitions. Fewer than 2^64 never bring it back, so a ticket of before them is of another generation, and
+-- 2^64 do (`another` and `the-same` of proofs/Generations.antt)
+unfoldable pub nexts : ℕ → ℕ → ℕ
+nexts zero g = g
+nexts (suc k) g = next (nexts k g)
+
 abbrev pub moved : ℕ → ℕ → State → State
 moved to until st =
     record {
       state = to;
       generation = next (st .generation);
       run = st .run;
-      inflight = st .inflight;
-      traitProbes = st .traitProbes;
-      successes = st .successes;
+      counts = st .counts;
       openUntil = until;
       list = st .list;
     }
 
+-- ---- what is counted
+
+abbrev pub noCounts : Counts
+noCounts = record { inflight = 0; «trait_probes» = 0; successes = 0 }
+
+-- "inflight +1"
+abbrev pub oneMoreTrial : Counts → Counts
+oneMoreTrial x = record { inflight = x .inflight + 1; «trait_probes» = x .«trait_probes»; successes = x .successes }
+
+-- "adds 1 to trait probes, capped"
+abbrev pub oneMoreTraitProbe : Counts → Counts
+oneMoreTraitProbe x = record { inflight = x .inflight; «trait_probes» = min (x .«trait_probes» + 1) (2 ^ 32 - 1); successes = x .successes }
+
+-- inflight and trait probes less by so many, "not below 0"; successes more
+abbrev pub lessCounts : ℕ → ℕ → ℕ → Counts → Counts
+lessCounts trials traits good x =
+    record { inflight = x .inflight - trials; «trait_probes» = x .«trait_probes» - traits; successes = x .successes + good }
+
+abbrev pub counting : ℕ → ℕ → ℕ → State → State
+counting trials traits good st = withCounts (lessCounts trials traits good (st .counts)) st
+
+-- ---- the transitions
+
 -- "Opening: open-until = reading + cooldown, capped; inflight, trait probes, successes 0; run and lists kept."
 abbrev pub opening : Settings → ℕ → State → State
-opening s reading st = moved Open (min (reading + s .cooldown) (2 ^ 64 - 1)) (withCounts 0 0 0 st)
+opening s reading st = moved Open (min (reading + s .cooldown) (2 ^ 64 - 1)) (withCounts noCounts st)
 
 -- "the counters and lists are emptied and the state is Closed"; "Open-until is kept."
 abbrev pub closing : State → State
-closing st = moved Closed (st .openUntil) (withHistory 0 [] (withCounts 0 0 0 st))
+closing st = moved Closed (st .openUntil) (withHistory 0 [] (withCounts noCounts st))
 
 -- "go HalfOpen, inflight 1, trait probes and successes 0"
 abbrev pub halfOpening : State → State
-halfOpening st = moved HalfOpen (st .openUntil) (withCounts 1 0 0 st)
+halfOpening st = moved HalfOpen (st .openUntil) (withCounts (oneMoreTrial noCounts) st)
 
 -- ---- "Admission."
 
@@ -102,12 +124,12 @@ admit s reading st =
     if eqb (st .state) Closed then granted (ticketOf st false) st
     else if eqb (st .state) Open then
     (if leb (st .openUntil) reading then granted (ticketOf (halfOpening st) true) (halfOpening st) else shed (st .openUntil - reading))
-    else if ltb (st .inflight) (s .trials) then granted (ticketOf st true) (withCounts (st .inflight + 1) (st .traitProbes) (st .successes) st)
+    else if ltb (st .counts .inflight) (s .trials) then granted (ticketOf st true) (withCounts (oneMoreTrial (st .counts)) st)
     else shed 0
 
 -- "A probe admitted through the trait side adds 1 to trait probes, capped."
 abbrev pub noted : State → State
-noted st = withCounts (st .inflight) (min (st .traitProbes + 1) (2 ^ 32 - 1)) (st .successes) st
+noted st = withCounts (oneMoreTraitProbe (st .counts)) st
 
 abbrev pub viaTrait : Bool → Admitted → Admitted
 viaTrait true (granted t st) = granted t (if t .probe then noted st else st)
@@ -117,32 +139,17 @@ viaTrait b (shed ms) = shed ms
 abbrev pub admitAs : Bool → Settings → ℕ → State → Admitted
 admitAs trait s reading st = viaTrait trait (admit s reading st)
 
--- ---- the calls that finish a permit: "settles with success or failure, aborts and trait aborts, each with a ticket"
-
-pub data Call : Type 0 where
-  success failure abort traitAbort : Ticket → Call
-
-abbrev pub ticket : Call → Ticket
-ticket (success t) = t
-ticket (failure t) = t
-ticket (abort t) = t
-ticket (traitAbort t) = t
+-- ---- "Settle"
 
 -- "a probe takes 1 from inflight": what a ticket holds
 abbrev pub probes : Ticket → ℕ
 probes t = bit (t .probe)
 
--- inflight and trait probes less by so many, successes more
-abbrev pub counting : ℕ → ℕ → ℕ → State → State
-counting trials traits good st = withCounts (st .inflight - trials) (st .traitProbes - traits) (st .successes + good) st
-
 -- "HalfOpen: a probe takes 1 from inflight, not below 0; a success adds 1 to successes, and at the required number the counters and lists
--- are emptied and the state is Closed; a failure opens." "Abort: only a probe …; inflight −1, through the trait side trait probes −1 too"
-abbrev pub inHalfOpen : Settings → ℕ → Call → State → State
-inHalfOpen s reading (success t) st = if leb (s .required) (st .successes + 1) then closing st else counting (probes t) 0 1 st
-inHalfOpen s reading (failure t) st = opening s reading st
-inHalfOpen s reading (abort t) st = counting (probes t) 0 0 st
-inHalfOpen s reading (traitAbort t) st = counting (probes t) (probes t) 0 st
+-- are emptied and the state is Closed; a failure opens."
+abbrev pub inHalfOpen : Settings → ℕ → Ticket → Bool → State → State
+inHalfOpen s reading t true st = if leb (s .required) (st .counts .successes + 1) then closing st else counting (probes t) 0 1 st
+inHalfOpen s reading t false st = opening s reading st
 
 -- "the policy records"
 abbrev pub recorded : Policy → Bool → ℕ → List ℕ → List ℕ
@@ -158,42 +165,52 @@ noRoom (Ratio window ratio least) reading xs = false
 noRoom (Windowed limit period) reading xs = full (cutoffOf reading period) xs
 
 -- "Closed: success zeroes the run of failures, failure adds 1, capped; the policy records; a failure may trip."
-unfoldable pub inClosed : Settings → ℕ → Call → State → Outcome
-inClosed s reading (success t) st = done (withHistory 0 (recorded (s .policy) false reading (st .list)) st)
-inClosed s reading (failure t) st =
+unfoldable pub inClosed : Settings → ℕ → Bool → State → Outcome
+inClosed s reading true st = done (withHistory 0 (recorded (s .policy) false reading (st .list)) st)
+inClosed s reading false st =
     let run = min (st .run + 1) (2 ^ 32 - 1) in
     let list = recorded (s .policy) true reading (st .list) in
     if noRoom (s .policy) reading (st .list) then outcome (refused Full) st
     else if tripped (s .policy) reading run list then done (opening s reading (withHistory run list st))
     else done (withHistory run list st)
-inClosed s reading (abort t) st = done st
-inClosed s reading (traitAbort t) st = done st
 
--- by the state; "Open: nothing."
-unfoldable pub act : Settings → ℕ → Call → State → Outcome
-act s reading c st =
-    if eqb (st .state) HalfOpen then done (inHalfOpen s reading c st)
-    else if eqb (st .state) Closed then inClosed s reading c st
+-- "a ticket of another generation changes nothing", then by the state; "Open: nothing."
+unfoldable pub settled : Settings → ℕ → Ticket → Bool → State → Outcome
+settled s reading t good st =
+    if not (eqb (t .generation) (st .generation)) then done st
+    else if eqb (st .state) HalfOpen then done (inHalfOpen s reading t good st)
+    else if eqb (st .state) Closed then inClosed s reading good st
     else done st
 
--- "a ticket of another generation changes nothing"
-unfoldable pub finish : Settings → ℕ → Call → State → Outcome
-finish s reading c st = if eqb (ticket c .generation) (st .generation) then act s reading c st else done st
+-- ---- "Abort: only a probe of the current generation in HalfOpen; inflight −1, through the trait side trait probes −1 too, neither below 0."
 
--- a settle with success or failure, and an abort through the trait side or not
-abbrev pub settling : Ticket → Bool → Call
-settling t true = success t
-settling t false = failure t
+unfoldable pub aborted : Ticket → Bool → State → State
+aborted t trait st =
+    if t .probe && (eqb (t .generation) (st .generation) && eqb (st .state) HalfOpen) then counting 1 (bit trait) 0 st
+    else st
 
-abbrev pub aborting : Ticket → Bool → Call
-aborting t true = traitAbort t
-aborting t false = abort t
+-- ---- the calls that finish a permit: "settles with success or failure, aborts and trait aborts, each with a ticket"
+
+pub data Call : Type 0 where
+  success failure abort traitAbort : Ticket → Call
+
+abbrev pub ticket : Call → Ticket
+ticket (success t) = t
+ticket (failure t) = t
+ticket (abort t) = t
+ticket (traitAbort t) = t
+
+abbrev pub finish : Settings → ℕ → Call → State → Outcome
+finish s reading (success t) st = settled s reading t true st
+finish s reading (failure t) st = settled s reading t false st
+finish s reading (abort t) st = done (aborted t false st)
+finish s reading (traitAbort t) st = done (aborted t true st)
 
 -- ---- the other calls
 
 -- "in HalfOpen with trait probes > 0"
 abbrev pub hasTraitProbe : State → Bool
-hasTraitProbe st = eqb (st .state) HalfOpen && ltb 0 (st .traitProbes)
+hasTraitProbe st = eqb (st .state) HalfOpen && ltb 0 (st .counts .«trait_probes»)
 
 -- "Trait refund: in HalfOpen with trait probes > 0, both −1, inflight not below 0."
 unfoldable pub released : State → State
@@ -203,20 +220,21 @@ released st = if hasTraitProbe st then counting 1 1 0 st else st
 -- used one up."
 unfoldable pub manual : Settings → ℕ → Bool → State → Outcome
 manual s reading good st =
-    if hasTraitProbe st then finish s reading (settling (ticketOf st true) good) (counting 0 1 0 st)
-    else finish s reading (settling (ticketOf st false) good) st
+    if hasTraitProbe st then settled s reading (ticketOf st true) good (counting 0 1 0 st)
+    else settled s reading (ticketOf st false) good st
 
 -- "Reset empties all counters and both lists, then goes Closed; from Closed too the generation moves. Open-until is kept."
 abbrev pub reset : State → Outcome
 reset st = done (closing st)
 
--- number 6 with its delay
-abbrev pub sheds : ℕ → Told
-sheds ms = shedTold (delayOf ms)
+-- whether a waiter may still go, or the delay in milliseconds
+pub data Verdict : Type 0 where
+  admits : Verdict
+  refuses : ℕ → Verdict
 
 -- "`still_admits`: yes for an equal generation or for Closed; otherwise open-until − reading (not below 0) in Open, 0 in HalfOpen."
-unfoldable pub stillAdmits : ℕ → Ticket → State → Told
+unfoldable pub stillAdmits : ℕ → Ticket → State → Verdict
 stillAdmits reading t st =
-    if eqb (t .generation) (st .generation) || eqb (st .state) Closed then nothing
-    else if eqb (st .state) Open then sheds (st .openUntil - reading)
-    else sheds 0
+    if eqb (t .generation) (st .generation) || eqb (st .state) Closed then admits
+    else if eqb (st .state) Open then refuses (st .openUntil - reading)
+    else refuses 0

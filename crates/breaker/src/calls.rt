@@ -1,28 +1,37 @@
-// Making a breaker, and whether a waiter may still go.
+// Making a breaker, and a delay.
 ghost use mathlib.Core.Path.{_≡_};
-ghost use Prim.Native.Nat.{_-_};
-ghost use Rattle.breaker.specs.Answers.{finishedTold, standingTold, delayOf};
-ghost use Rattle.breaker.specs.Calls.{after, asked, built};
-ghost use Rattle.breaker.specs.Rules as Rules;
+ghost use Rattle.breaker.specs.Answers.{finishedTold, delayOf};
+ghost use Rattle.breaker.specs.Calls.{after, built};
+ghost use Rattle.breaker.specs.Rules.{noCounts};
 use crate::Breaker;
+use crate::CLOSED;
+use crate::Counts;
 use crate::Delay;
 use crate::Finished;
 use crate::Settled;
 use crate::Shared;
-use crate::Standing;
-use crate::Tested;
-use crate::Ticket;
-use crate::test;
 use error::Refusal;
 use trip::Built;
 use trip::CircuitBreakerBuilder;
+
+// Nothing counted.
+// Ruled out: a success left over; a trial out.
+pub fn no_counts() -> Counts
+    ensures { λ r. ⌜ r ≡ noCounts ⌝ }
+{
+    Counts {
+        inflight: 0,
+        trait_probes: 0,
+        successes: 0,
+    }
+}
 
 // Puts a fresh breaker into record and storage.
 // Ruled out: a storage place left as it was; a generation kept from the old record.
 pub fn build(breaker: Breaker, list: &mut [u64], builder: CircuitBreakerBuilder) -> Settled
     ensures { λ r. ⌜ after (finishedTold (r .answer)) (r .breaker) (now (list .exit)) ≡ built builder breaker (now (list .entry)) ⌝ }
 {
-    if list.len() != 4096 {
+    if list.len() != history::PLACES {
         return Settled {
             answer: Finished::Refused(Refusal::Storage),
             breaker,
@@ -40,12 +49,10 @@ pub fn build(breaker: Breaker, list: &mut [u64], builder: CircuitBreakerBuilder)
                 breaker: Breaker {
                     config,
                     shared: Shared {
-                        state: 0,
+                        state: CLOSED,
                         generation: 0,
                         run: 0,
-                        inflight: 0,
-                        trait_probes: 0,
-                        successes: 0,
+                        counts: no_counts(),
                         open_until: 0,
                         len: 0,
                     },
@@ -61,37 +68,4 @@ pub fn delayed(ms: u64) -> Delay
     ensures { λ r. ⌜ r ≡ delayOf ms ⌝ }
 {
     Delay { ms }
-}
-
-// What remains until a reading.
-fn remaining(until: u64, now_ms: u64) -> u64
-    ensures { λ r. ⌜ r ≡ until - «now_ms» ⌝ }
-{
-    if until < now_ms {
-        return 0;
-    }
-    until - now_ms
-}
-
-// Whether a waiter with this ticket may still go.
-// Ruled out: a shed of the present generation while Open; a delay above 0 in HalfOpen.
-pub fn still_admits(breaker: Breaker, list: &[u64], now_ms: u64, ticket: Ticket) -> Standing
-    ensures { λ r. ⌜ standingTold r ≡ asked (λ s st. Rules.stillAdmits «now_ms» ticket st) breaker (now (list .entry)) ⌝ }
-{
-    match test(breaker, list) {
-        Tested::Refused(r) => Standing::Refused(r),
-        Tested::Sound => {
-            let h = breaker.shared;
-            if ticket.generation == h.generation {
-                return Standing::Admits;
-            }
-            if h.state == 0 {
-                return Standing::Admits;
-            }
-            if h.state == 2 {
-                return Standing::Shed(delayed(remaining(h.open_until, now_ms)));
-            }
-            Standing::Shed(delayed(0))
-        }
-    }
 }

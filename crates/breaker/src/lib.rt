@@ -5,36 +5,44 @@ ghost use Rattle.breaker.specs.Record.{sound};
 ghost use Rattle.breaker.specs.Calls.{guarded};
 
 mod calls;
+mod reply;
 mod sound;
 
 pub use calls::build;
 pub use calls::delayed;
-pub use calls::still_admits;
+pub use calls::no_counts;
 use error::Refusal;
-use sound::items_of;
+pub use sound::items_of;
 use sound::sound_policy;
 use sound::sound_shared;
 use trip::Config;
 
+// The states of a breaker.
 pub const CLOSED: u8 = 0;
 
 pub const HALF_OPEN: u8 = 1;
 
 pub const OPEN: u8 = 2;
 
-pub const PLACES: usize = 4096;
+// What is counted in HalfOpen.
+#[repr(C)]
+pub struct Counts {
+    // trials that are out
+    pub inflight: u32,
+    // trials taken through the trait side and not given back
+    pub trait_probes: u32,
+    pub successes: u32,
+}
 
 // What calls change of a breaker, in document 01's order.
 #[repr(C)]
 pub struct Shared {
-    // 0 Closed, 1 HalfOpen, 2 Open
+    // CLOSED, HALF_OPEN or OPEN
     pub state: u8,
     pub generation: u64,
     // failures in a row
     pub run: u32,
-    pub inflight: u32,
-    pub trait_probes: u32,
-    pub successes: u32,
+    pub counts: Counts,
     pub open_until: u64,
     // of the list in the storage
     pub len: u32,
@@ -62,6 +70,12 @@ pub enum Decision {
     Acquired,
     Retry(Delay),
     Impossible,
+}
+
+// The wait before a retry, or none.
+pub enum RetryAfter {
+    After(Delay),
+    Nothing,
 }
 
 // What an inner limiter replied to a reservation.
@@ -180,7 +194,7 @@ pub fn is_sound(breaker: Breaker, list: &[u64]) -> bool
 pub fn test(breaker: Breaker, list: &[u64]) -> Tested
     ensures { λ r. ⌜ r ≡ guarded Tested.Refused Tested.Sound breaker (now (list .entry)) ⌝ }
 {
-    if list.len() != PLACES {
+    if list.len() != history::PLACES {
         return Tested::Refused(Refusal::Storage);
     }
     if !is_sound(breaker, list) {

@@ -1,6 +1,9 @@
 // The tests behind "sound", over the record alone.
 ghost use mathlib.Core.Path.{_≡_};
-ghost use Rattle.breaker.specs.Record.{soundRatio, soundPolicy, soundShared, itemsOf};
+ghost use Rattle.breaker.specs.Record.{soundRatio, soundPolicy, isIdle, soundShared, itemsOf};
+use crate::Counts;
+use crate::HALF_OPEN;
+use crate::OPEN;
 use crate::Shared;
 use history::Items;
 use trip::Config;
@@ -63,31 +66,39 @@ pub(crate) fn sound_policy(c: Config) -> bool
     c.min_calls == 0
 }
 
+fn is_idle(counts: Counts) -> bool
+    ensures { λ r. ⌜ r ≡ isIdle counts ⌝ }
+{
+    if counts.inflight != 0 {
+        return false;
+    }
+    if counts.trait_probes != 0 {
+        return false;
+    }
+    counts.successes == 0
+}
+
 pub(crate) fn sound_shared(c: Config, h: Shared) -> bool
     ensures { λ r. ⌜ r ≡ soundShared c h ⌝ }
 {
-    if 2 < h.state {
+    if OPEN < h.state {
         return false;
     }
-    if c.trials < h.inflight {
+    if c.trials < h.counts.inflight {
         return false;
     }
-    if h.successes >= c.required {
+    if h.counts.successes >= c.required {
         return false;
     }
-    if h.state == 1 {
+    if h.state == HALF_OPEN {
         return true;
     }
-    if h.inflight != 0 {
-        return false;
-    }
-    if h.trait_probes != 0 {
-        return false;
-    }
-    h.successes == 0
+    is_idle(h.counts)
 }
 
-pub(crate) fn items_of(c: Config) -> Items
+// What the list of a breaker with these settings holds.
+// Ruled out: outcomes for Windowed; a window of 4,096 whatever the settings.
+pub fn items_of(c: Config) -> Items
     ensures { λ r. ⌜ r ≡ itemsOf c ⌝ }
 {
     if c.kind == 1 {

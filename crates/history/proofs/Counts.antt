@@ -2,7 +2,7 @@
 --     sum-more        one item more
 --     sum-turn        a turn of a loop that counts items by a test
 --     count-le        a count is at most the length
---     total-failures  the sum of outcomes is how many failed
+--     sum-failures  the sum of outcomes is how many failed
 --     recent-more, recent-next   differences without the top bit are of items at or after the cutoff
 use mathlib.Core.Path.{_≡_, refl, sym, ap, ap₂, _∙_}
 use mathlib.Core.Logic.{_⊎_, inl, inr}
@@ -18,7 +18,7 @@ use lib.Seq.{take-suc}
 use lib.Dec.{ltb, eqb}
 use borrow.Author.Tests.{ltb-true, le-leb}
 use Rattle.error.specs.Choice.{if_then_else_}
-use Rattle.history.specs.Items.{allBelow, sumOf, total, failures, recent}
+use Rattle.history.specs.Items.{allBelow, sumOf, itemSum, failures, recent}
 use Rattle.error.proofs.Choice.{and-split}
 use Rattle.history.proofs.Laws.{or-ge}
 
@@ -54,12 +54,12 @@ count-le p (x ∷ xs) = go (p x) (count-le p xs)
 pub count-take : (p : ℕ → Bool) (n : ℕ) (s : List ℕ) → sumOf (ones p) (take n s) ≤ n
 count-take p n s = omega (arith, count-le p (take n s), length-take n s)
 
-pub total-failures : (xs : List ℕ) → allBelow 2 xs ≡ true → total xs ≡ failures xs
+pub sum-failures : (xs : List ℕ) → allBelow 2 xs ≡ true → itemSum xs ≡ failures xs
 unfolding allBelow sumOf
-total-failures [] e = refl
-total-failures (x ∷ xs) e =
+sum-failures [] e = refl
+sum-failures (x ∷ xs) e =
     let p = and-split (ltb x 2) (allBelow 2 xs) e in
-    ap₂ (λ (a b : ℕ). a + b) (outcome x (ltb-true x 2 (p .0))) (total-failures xs (p .1))
+    ap₂ (λ (a b : ℕ). a + b) (outcome x (ltb-true x 2 (p .0))) (sum-failures xs (p .1))
   where
     outcome : (x : ℕ) → x < 2 → x ≡ (if eqb x 1 then 1 else 0)
     outcome zero h = refl
@@ -67,8 +67,8 @@ total-failures (x ∷ xs) e =
     outcome (suc (suc x)) h = absurd (omega arith)
 
 -- a sum in two parts, wrapping
-pub total-more : (a b r : ℕ) (xs ys zs : List ℕ) → a ≡ total xs % 2 ^ 64 → b ≡ total ys % 2 ^ 64 → r ≡ (a + b) % 2 ^ 64 → xs ++ ys ≡ zs → r ≡ total zs % 2 ^ 64
-total-more a b r xs ys zs p q e w = rw (← w, sum-append) (omega (arith, p, q, e))
+pub item-sum-more : (a b r : ℕ) (xs ys zs : List ℕ) → a ≡ itemSum xs % 2 ^ 64 → b ≡ itemSum ys % 2 ^ 64 → r ≡ (a + b) % 2 ^ 64 → xs ++ ys ≡ zs → r ≡ itemSum zs % 2 ^ 64
+item-sum-more a b r xs ys zs p q e w = rw (← w, sum-append) (omega (arith, p, q, e))
 
 -- below 2^63 a difference that is below 2^63 is of an item at or after the cutoff
 abbrev pub AllRecent : ℕ → ℕ → List ℕ → Type 0

@@ -4,5 +4,6 @@ pub mod Counts
 pub mod Laid
 pub mod Sound
 pub mod Change
+pub mod Recorded
 pub mod Held
 pub mod OneToOne

@@ -13,7 +13,7 @@ use lib.Dec.{leb, ltb, eqb}
 use borrow.Author.Tests.{ltb-true, leb-true, eqb-true, le-leb, eq-eqb}
 use Rattle.history.specs.declared.Items.{Items}
 use Rattle.history.specs.declared.Items.the-variants.{Nothing, Outcomes, Times}
-use Rattle.history.specs.Items.{view, padded, allBelow, fits, known, soundList}
+use Rattle.history.specs.Items.{view, padded, allBelow, fits, areItems, soundList}
 use Rattle.error.proofs.Choice.{and-split}
 
 pub fits-outcomes : (w n : ℕ) → fits (Outcomes w) n ≡ true → (1 ≤ w) × (w ≤ 4096) × (n ≤ w)
@@ -36,7 +36,7 @@ pub record Sound (items : Items) (len : ℕ) (s : List ℕ) : Type 0 where
   pub lengthFits : fits items len ≡ true
   pub le : len ≤ 4096
   pub isPadded : s ≡ padded (view len s)
-  pub ofItsKind : known items (view len s) ≡ true
+  pub ofItsKind : areItems items (view len s) ≡ true
 
 -- what is below 1 is 0
 zeros : (xs : List ℕ) → allBelow 1 xs ≡ true → xs ≡ replicate (length xs) 0
@@ -56,7 +56,7 @@ pub sound→ : (items : Items) (len : ℕ) (s : List ℕ) → soundList items le
 unfolding soundList
 sound→ items len s e =
     let d = allBelow 1 (drop len s) in
-    let k = known items (view len s) in
+    let k = areItems items (view len s) in
     let p = and-split (eqb (length s) 4096) (fits items len && (d && k)) e in
     let q = and-split (fits items len) (d && k) (p .1) in
     let r = and-split d k (q .1) in
@@ -77,6 +77,6 @@ view-padded xs = take-append-seam xs (replicate (4096 - length xs) 0)
 pub length-padded : (xs : List ℕ) → length xs ≤ 4096 → length (padded xs) ≡ 4096
 length-padded xs h = simp (length-append, length-replicate) (omega arith)
 
-pub →sound : (items : Items) (xs : List ℕ) → fits items (length xs) ≡ true → known items xs ≡ true → soundList items (length xs) (padded xs) ≡ true
+pub →sound : (items : Items) (xs : List ℕ) → fits items (length xs) ≡ true → areItems items xs ≡ true → soundList items (length xs) (padded xs) ≡ true
 unfolding soundList
 →sound items xs f k = simp (f, eq-eqb _ _ (length-padded xs (fits-le items (length xs) f)), view-padded, drop-append-seam, below-zeros, k)

@@ -9,10 +9,10 @@ use Rattle.error.specs.Told.{Told, tell, refused}
 use Rattle.error.specs.declared.Refusal.{Refusal}
 use Rattle.error.specs.declared.Refusal.the-variants.{Storage, Unsound, Full}
 use Rattle.history.specs.declared.Items.{Items}
-use Rattle.history.specs.declared.Items.the-variants.{Outcomes, Times}
+use Rattle.history.specs.declared.Items.the-variants.{Times}
 use Rattle.history.specs.declared.Changed.{Changed}
 use Rattle.history.specs.declared.Changed.the-variants.{Stored, Refused}
-use Rattle.history.specs.Items.{view, padded, fits, evicted, cutoffOf, withOutcome, withTime, withoutExpired}
+use Rattle.history.specs.Items.{view, padded, fits, evicted}
 
 -- the number of document 01's table, 0 for a change that was made, with the new length
 abbrev pub told : Changed → Told
@@ -43,31 +43,22 @@ held xs = left (told (Stored (length xs))) (padded xs)
 abbrev pub refuse : Refusal → List ℕ → Left
 refuse r s = left (told (Refused r)) s
 
--- 3 for storage of other than 4,096 places, then 4 for a length that a list of the kind can't have (for Ratio none, where the window is 0 or
--- over 4,096), else the change
+-- 3 for storage of other than 4,096 places, then 4 for a length that a list of the kind can't have, else the change
 abbrev pub onList : Items → ℕ → List ℕ → Left → Left
 onList items n s change =
     if not (eqb (length s) 4096) then refuse Storage s
     else if not (fits items n) then refuse Unsound s
     else change
 
--- Ratio: an outcome is recorded
-unfoldable pub pushedOutcome : ℕ → ℕ → ℕ → List ℕ → Left
-pushedOutcome window o n s = onList (Outcomes window) n s (become (withOutcome window o (view n s)) n s)
-
 -- number 5's cause: "4,096 older times left after eviction"
 abbrev pub full : ℕ → List ℕ → Bool
 full cutoff xs = leb 4096 (length (evicted cutoff xs))
 
--- Windowed: a failure is recorded, where there is room
-unfoldable pub pushedTime : ℕ → ℕ → ℕ → List ℕ → Left
-pushedTime reading period n s =
-    onList Times n s
-    (if full (cutoffOf reading period) (view n s) then refuse Full s else become (withTime reading period (view n s)) n s)
-
--- Windowed: a success is recorded
-unfoldable pub evictedTimes : ℕ → ℕ → ℕ → List ℕ → Left
-evictedTimes reading period n s = onList Times n s (become (withoutExpired reading period (view n s)) n s)
+-- so many of the oldest items go, and new ones are appended, if there is room for them
+unfoldable pub replaced : ℕ → List ℕ → ℕ → List ℕ → Left
+replaced gone new n s =
+    let xs = drop gone (view n s) ++ new in
+    onList Times n s (if leb (length xs) 4096 then become xs n s else refuse Full s)
 
 -- the list is emptied
 unfoldable pub cleared : ℕ → List ℕ → Left

@@ -29,14 +29,14 @@ fits (Outcomes window) len = leb 1 window && (leb window 4096 && leb len window)
 fits Times len = leb len 4096
 
 -- "outcomes (1 failed, 0 good)"
-abbrev pub known : Items → List ℕ → Bool
-known Nothing xs = true
-known (Outcomes window) xs = allBelow 2 xs
-known Times xs = true
+abbrev pub areItems : Items → List ℕ → Bool
+areItems Nothing xs = true
+areItems (Outcomes window) xs = allBelow 2 xs
+areItems Times xs = true
 
 -- whether the storage s with the length len holds a list of the kind
 unfoldable pub soundList : Items → ℕ → List ℕ → Bool
-soundList items len s = eqb (length s) 4096 && (fits items len && (allBelow 1 (drop len s) && known items (view len s)))
+soundList items len s = eqb (length s) 4096 && (fits items len && (allBelow 1 (drop len s) && areItems items (view len s)))
 
 -- the sum of what each item counts
 unfoldable pub sumOf : (ℕ → ℕ) → List ℕ → ℕ
@@ -47,9 +47,9 @@ sumOf f (x ∷ xs) = f x + sumOf f xs
 abbrev pub failures : List ℕ → ℕ
 failures xs = sumOf (λ x. if eqb x 1 then 1 else 0) xs
 
--- the sum of the items, which is `failures` for a list of outcomes (`total-failures` of proofs/Counts.antt)
-abbrev pub total : List ℕ → ℕ
-total xs = sumOf (λ x. x) xs
+-- the sum of the items, which is `failures` for a list of outcomes (`sum-failures` of proofs/Counts.antt)
+abbrev pub itemSum : List ℕ → ℕ
+itemSum xs = sumOf (λ x. x) xs
 
 -- "the times ≥ cutoff": how many
 abbrev pub recent : ℕ → List ℕ → ℕ

@@ -5,10 +5,12 @@ ghost use Prim.Native.Nat.{ℕ, _+_, _-_, _≤_, _<_, _^_, _%_, min};
 ghost use lib.ListN.{length, take, drop, replicate};
 ghost use mathlib.Core.List.{[], _∷_, _++_};
 ghost use lib.Dec.{ltb};
-ghost use Rattle.error.specs.Choice.{bit};
-ghost use Rattle.history.specs.Items.{view, allBelow, fits, soundList, total, recent, evicted, cutoffOf};
-ghost use Rattle.history.specs.Change.{laid, left, told, pushedOutcome, pushedTime, evictedTimes, cleared};
+ghost use Rattle.history.specs.Items.{view, allBelow, fits, soundList, itemSum, recent, evicted, cutoffOf};
+ghost use Rattle.history.specs.Change.{laid, left, told, replaced, cleared};
 use error::Refusal;
+
+// The places of the storage.
+pub const PLACES: usize = 4096;
 
 // What the list of a breaker holds, by its policy.
 pub enum Items {
@@ -85,7 +87,7 @@ fn may_have(items: Items, len: u32) -> bool
 pub fn sound_list(list: &[u64], len: u32, items: Items) -> bool
     ensures { λ r. ⌜ r ≡ soundList items len (now (list .entry)) ⌝ }
 {
-    if list.len() != 4096 {
+    if list.len() != PLACES {
         return false;
     }
     if !may_have(items, len) {
@@ -116,7 +118,7 @@ fn within(len: u32, places: usize) -> usize
 
 // The sum of the elements, wrapping.
 fn sum_in_turn(s: &[u64]) -> u64
-    ensures { λ r. ⌜ r ≡ total (now (s .entry)) % 2 ^ 64 ⌝ }
+    ensures { λ r. ⌜ r ≡ itemSum (now (s .entry)) % 2 ^ 64 ⌝ }
 {
     let mut n: u64 = 0;
     let mut i: usize = 0;
@@ -129,7 +131,7 @@ fn sum_in_turn(s: &[u64]) -> u64
 
 // The same for long slices, in blocks as in `any_bits`.
 fn sum(s: &[u64]) -> u64
-    ensures { λ r. ⌜ r ≡ total (now (s .entry)) % 2 ^ 64 ⌝ }
+    ensures { λ r. ⌜ r ≡ itemSum (now (s .entry)) % 2 ^ 64 ⌝ }
 {
     let mut n: u64 = 0;
     let mut i: usize = 0;
@@ -192,22 +194,41 @@ fn at_or_after(s: &[u64], cutoff: u64) -> u64
     compared(s, cutoff)
 }
 
-// How many outcomes of the list failed: the sum of its zeros and ones. Of other numbers the sum wraps.
-// Ruled out: a count that stops before the newest outcome; one that counts the good outcomes.
-pub fn count_failures(list: &[u64], len: u32) -> u64
-    ensures { λ r. ⌜ r ≡ total (view len (now (list .entry))) % 2 ^ 64 ⌝ }
+// The next even place, from which on pairs are read that no cache line divides.
+fn next_even(k: usize, n: usize) -> usize
+    requires { ⌜ k ≤ n ⌝ }
+    ensures { λ r. ⌜ (k ≤ r) × (r ≤ n) ⌝ }
 {
-    let n = within(len, list.len());
-    sum(&list[..n])
+    if k % 2 == 0 {
+        return k;
+    }
+    if k == n {
+        return k;
+    }
+    k + 1
 }
 
-// How many readings of the list are at or after the cutoff.
-// Ruled out: a count that leaves out a reading equal to the cutoff; one that goes on past the length.
-pub fn count_recent(list: &[u64], len: u32, cutoff: u64) -> u32
-    ensures { λ r. ⌜ r ≡ recent cutoff (view len (now (list .entry))) ⌝ }
+// How many outcomes of the list failed, from place `first` on: the sum of zeros and ones. Of other numbers the sum wraps.
+// Ruled out: a count that stops before the newest outcome; one that counts the outcomes before `first`.
+pub fn count_failures(list: &[u64], first: u32, len: u32) -> u64
+    ensures { λ r. ⌜ r ≡ itemSum (drop first (view len (now (list .entry)))) % 2 ^ 64 ⌝ }
 {
     let n = within(len, list.len());
-    at_or_after(&list[..n], cutoff) as u32
+    let k = within(first, n);
+    let even = next_even(k, n);
+    std::num::wrapping_add_u64(sum_in_turn(&list[k..even]), sum(&list[even..n]))
+}
+
+// How many readings of the list are at or after the cutoff, from place `first` on.
+// Ruled out: a count that leaves out a reading equal to the cutoff; one that goes on past the length.
+pub fn count_recent(list: &[u64], first: u32, len: u32, cutoff: u64) -> u32
+    ensures { λ r. ⌜ r ≡ recent cutoff (drop first (view len (now (list .entry)))) ⌝ }
+{
+    let n = within(len, list.len());
+    let k = within(first, n);
+    let even = next_even(k, n);
+    let before = compared(&list[k..even], cutoff) as u32;
+    before + at_or_after(&list[even..n], cutoff) as u32
 }
 
 // Moves the n elements from k on down to the front.
@@ -249,7 +270,7 @@ fn zero(s: &mut [u64])
 }
 
 // Drops the k oldest of the n items, and clears the places that fall free.
-fn drop_oldest(s: &mut [u64], n: usize, k: usize)
+fn remove(s: &mut [u64], n: usize, k: usize)
     requires { ⌜ (k ≤ n) × (n ≤ length (now s)) ⌝ }
     ensures { λ _. ⌜ now (s .exit) ≡ laid n (drop k (take n (now (s .entry)))) (now (s .entry)) ⌝ }
 {
@@ -258,41 +279,67 @@ fn drop_oldest(s: &mut [u64], n: usize, k: usize)
     zero(&mut s[kept..n]);
 }
 
-// Drops the k oldest of the n items, and appends v.
-fn turn_over(s: &mut [u64], n: usize, k: usize, v: u64)
+// The same, and appends v.
+fn remove_and_append(s: &mut [u64], n: usize, k: usize, v: u64)
     requires { ⌜ (k ≤ n) × (n ≤ length (now s)) × (n - k < length (now s)) ⌝ }
     ensures { λ _. ⌜ now (s .exit) ≡ laid n (drop k (take n (now (s .entry))) ++ v ∷ []) (now (s .entry)) ⌝ }
 {
-    drop_oldest(s, n, k);
+    remove(s, n, k);
     let kept = n - k;
     s[kept] = v;
 }
 
-fn bit_of(failed: bool) -> u64
-    ensures { λ r. ⌜ r ≡ bit failed ⌝ }
+// Drops so many of the oldest items.
+// Ruled out: one that leaves an old item in a place that fell free; one that drops the newest.
+pub fn drop_oldest(list: &mut [u64], len: u32, gone: u32) -> Changed
+    ensures { λ r. ⌜ left (told r) (now (list .exit)) ≡ replaced gone [] len (now (list .entry)) ⌝ }
 {
-    if failed { 1 } else { 0 }
-}
-
-// Appends an outcome, and drops the oldest where the window is full.
-// Ruled out: a push that keeps one outcome more than the window; one that leaves an old outcome in a place that fell free.
-pub fn push_outcome(list: &mut [u64], len: u32, window: u32, failed: bool) -> Changed
-    ensures { λ r. ⌜ left (told r) (now (list .exit)) ≡ pushedOutcome window (bit failed) len (now (list .entry)) ⌝ }
-{
-    if list.len() != 4096 {
+    if list.len() != PLACES {
         return Changed::Refused(Refusal::Storage);
     }
-    if !may_have(Items::Outcomes(window), len) {
+    if !may_have(Items::Times, len) {
         return Changed::Refused(Refusal::Unsound);
     }
     let n = len as usize;
-    let v = bit_of(failed);
-    if len < window {
-        turn_over(list, n, 0, v);
-        return Changed::Stored(len + 1);
+    let k = within(gone, n);
+    remove(list, n, k);
+    Changed::Stored((n - k) as u32)
+}
+
+// Drops so many of the oldest items, and appends one. Where 4,096 would be left before it, nothing is done.
+// Ruled out: one that keeps what it dropped where it refuses; one that appends behind a place that fell free.
+pub fn turn_over(list: &mut [u64], len: u32, gone: u32, item: u64) -> Changed
+    ensures { λ r. ⌜ left (told r) (now (list .exit)) ≡ replaced gone (item ∷ []) len (now (list .entry)) ⌝ }
+{
+    if list.len() != PLACES {
+        return Changed::Refused(Refusal::Storage);
     }
-    turn_over(list, n, 1, v);
-    Changed::Stored(len)
+    if !may_have(Items::Times, len) {
+        return Changed::Refused(Refusal::Unsound);
+    }
+    let n = len as usize;
+    let k = within(gone, n);
+    if n - k == PLACES {
+        return Changed::Refused(Refusal::Full);
+    }
+    remove_and_append(list, n, k, item);
+    Changed::Stored((n - k + 1) as u32)
+}
+
+// Empties the list.
+// Ruled out: one that leaves the newest item; one that answers a length other than 0.
+pub fn clear(list: &mut [u64], len: u32) -> Changed
+    ensures { λ r. ⌜ left (told r) (now (list .exit)) ≡ cleared len (now (list .entry)) ⌝ }
+{
+    if list.len() != PLACES {
+        return Changed::Refused(Refusal::Storage);
+    }
+    if !may_have(Items::Times, len) {
+        return Changed::Refused(Refusal::Unsound);
+    }
+    let n = len as usize;
+    remove(list, n, n);
+    Changed::Stored(0)
 }
 
 // The reading from which on a failure counts.
@@ -320,63 +367,11 @@ fn first_recent(s: &[u64], cutoff: u64) -> usize
     i
 }
 
-// How many readings at the front of the n are before the cutoff: those ahead of the first that isn't.
-fn expired(list: &[u64], n: usize, reading: u64, period: u64) -> usize
-    requires { ⌜ n ≤ length (now list) ⌝ }
-    ensures { λ r. ⌜ (drop r (take n (now (list .entry))) ≡ evicted (cutoffOf reading period) (take n (now (list .entry)))) × (r ≤ n) ⌝ }
+// How many readings at the front of the list are before the cutoff: those ahead of the first that isn't.
+// Ruled out: one that counts a reading equal to the cutoff; one that also counts a reading behind a recent one.
+pub fn count_expired(list: &[u64], len: u32, cutoff: u64) -> u32
+    ensures { λ r. ⌜ (drop r (view len (now (list .entry))) ≡ evicted cutoff (view len (now (list .entry)))) × (r ≤ len) ⌝ }
 {
-    first_recent(&list[..n], cutoff(reading, period))
-}
-
-// Appends a failure's reading, and drops the oldest while they are before the cutoff. Where 4,096 older ones would be left, nothing is done.
-// Ruled out: one that evicts a reading equal to the cutoff; one that keeps the eviction where it refuses.
-pub fn push_time(list: &mut [u64], len: u32, reading: u64, period: u64) -> Changed
-    ensures { λ r. ⌜ left (told r) (now (list .exit)) ≡ pushedTime reading period len (now (list .entry)) ⌝ }
-{
-    if list.len() != 4096 {
-        return Changed::Refused(Refusal::Storage);
-    }
-    if !may_have(Items::Times, len) {
-        return Changed::Refused(Refusal::Unsound);
-    }
-    let n = len as usize;
-    let k = expired(list, n, reading, period);
-    if n - k == 4096 {
-        return Changed::Refused(Refusal::Full);
-    }
-    turn_over(list, n, k, reading);
-    Changed::Stored((n - k + 1) as u32)
-}
-
-// Drops the oldest readings while they are before the cutoff: what a success does to them.
-// Ruled out: one that stops after the first; one that also drops a reading behind a recent one.
-pub fn evict_times(list: &mut [u64], len: u32, reading: u64, period: u64) -> Changed
-    ensures { λ r. ⌜ left (told r) (now (list .exit)) ≡ evictedTimes reading period len (now (list .entry)) ⌝ }
-{
-    if list.len() != 4096 {
-        return Changed::Refused(Refusal::Storage);
-    }
-    if !may_have(Items::Times, len) {
-        return Changed::Refused(Refusal::Unsound);
-    }
-    let n = len as usize;
-    let k = expired(list, n, reading, period);
-    drop_oldest(list, n, k);
-    Changed::Stored((n - k) as u32)
-}
-
-// Empties the list.
-// Ruled out: one that leaves the newest item; one that answers a length other than 0.
-pub fn clear(list: &mut [u64], len: u32) -> Changed
-    ensures { λ r. ⌜ left (told r) (now (list .exit)) ≡ cleared len (now (list .entry)) ⌝ }
-{
-    if list.len() != 4096 {
-        return Changed::Refused(Refusal::Storage);
-    }
-    if !may_have(Items::Times, len) {
-        return Changed::Refused(Refusal::Unsound);
-    }
-    let n = len as usize;
-    drop_oldest(list, n, n);
-    Changed::Stored(0)
+    let n = within(len, list.len());
+    first_recent(&list[..n], cutoff) as u32
 }

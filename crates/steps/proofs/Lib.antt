@@ -2,6 +2,5 @@
 pub mod Holding
 pub mod Entering
 pub mod Aborting
-pub mod Finishing
-pub mod Outcomes
+pub mod Deciding
 pub mod Settling

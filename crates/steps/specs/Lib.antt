@@ -1,3 +1,3 @@
 -- The definitions that the contracts of this crate cite.
 pub mod Steps
-pub mod Locked
+pub mod Decide

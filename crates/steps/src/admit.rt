@@ -1,23 +1,29 @@
-// Admission.
+// Admission, and whether a waiter may still go.
 ghost use mathlib.Core.Path.{_≡_};
+ghost use Prim.Native.Nat.{_-_};
 ghost use Rattle.trip.specs.declared.Config.{Config};
 ghost use Rattle.breaker.specs.Record.{State, settings, stored};
-ghost use Rattle.breaker.specs.Rules.{admit, admitAs};
-ghost use Rattle.steps.specs.Steps.{entry};
+ghost use Rattle.breaker.specs.Rules.{admit, admitAs, stillAdmits};
+ghost use Rattle.steps.specs.Steps.{entry, verdict};
 use crate::Entry;
+use crate::Verdict;
 use crate::update::one_more;
 use crate::update::transition;
 use crate::update::with_counts;
 use breaker::Breaker;
+use breaker::CLOSED;
+use breaker::HALF_OPEN;
+use breaker::OPEN;
 use breaker::Ticket;
 use breaker::delayed;
+use breaker::no_counts;
 
 // Ruled out: a shed at open-until itself; a trial beyond the trials.
 pub fn admit_locked(b: Breaker, now_ms: u64) -> Entry
     ensures { λ r. ⌜ ((c : Config) (st : State) → b ≡ stored c st → r ≡ entry c (admit (settings c) «now_ms» st)) ⌝ }
 {
     let h = b.shared;
-    if h.state == breaker::CLOSED {
+    if h.state == CLOSED {
         return Entry::Granted(
             Ticket {
                 generation: h.generation,
@@ -26,11 +32,13 @@ pub fn admit_locked(b: Breaker, now_ms: u64) -> Entry
             b,
         );
     }
-    if h.state == breaker::OPEN {
+    if h.state == OPEN {
         if now_ms < h.open_until {
             return Entry::Shed(delayed(h.open_until - now_ms));
         }
-        let next = transition(with_counts(b, 1, 0, 0), breaker::HALF_OPEN, h.open_until);
+        let mut first = no_counts();
+        first.inflight = 1;
+        let next = transition(with_counts(b, first), HALF_OPEN, h.open_until);
         return Entry::Granted(
             Ticket {
                 generation: next.shared.generation,
@@ -39,14 +47,15 @@ pub fn admit_locked(b: Breaker, now_ms: u64) -> Entry
             next,
         );
     }
-    if h.inflight < b.config.trials {
-        let next = with_counts(b, h.inflight + 1, h.trait_probes, h.successes);
+    let mut counts = h.counts;
+    if counts.inflight < b.config.trials {
+        counts.inflight = counts.inflight + 1;
         return Entry::Granted(
             Ticket {
                 generation: h.generation,
                 probe: true,
             },
-            next,
+            with_counts(b, counts),
         );
     }
     Entry::Shed(delayed(0))
@@ -65,11 +74,36 @@ pub fn admit_as_locked(b: Breaker, now_ms: u64, via_trait: bool) -> Entry
             if !t.probe {
                 return Entry::Granted(t, next);
             }
-            let h = next.shared;
-            Entry::Granted(
-                t,
-                with_counts(next, h.inflight, one_more(h.trait_probes), h.successes),
-            )
+            let mut counts = next.shared.counts;
+            counts.trait_probes = one_more(counts.trait_probes);
+            Entry::Granted(t, with_counts(next, counts))
         }
     }
+}
+
+// What remains until a reading.
+fn remaining(until: u64, now_ms: u64) -> u64
+    ensures { λ r. ⌜ r ≡ until - «now_ms» ⌝ }
+{
+    if until < now_ms {
+        return 0;
+    }
+    until - now_ms
+}
+
+// Ruled out: a shed of the present generation while Open; a delay above 0 in HalfOpen.
+pub fn still_admits_locked(b: Breaker, now_ms: u64, ticket: Ticket) -> Verdict
+    ensures { λ r. ⌜ ((c : Config) (st : State) → b ≡ stored c st → r ≡ verdict (stillAdmits «now_ms» ticket st)) ⌝ }
+{
+    let h = b.shared;
+    if ticket.generation == h.generation {
+        return Verdict::Admits;
+    }
+    if h.state == CLOSED {
+        return Verdict::Admits;
+    }
+    if h.state == OPEN {
+        return Verdict::Shed(delayed(remaining(h.open_until, now_ms)));
+    }
+    Verdict::Shed(delayed(0))
 }

@@ -1,92 +1,94 @@
-// What an outcome does. Each step promises for every sound breaker; on any other it is safe, and promises nothing.
+// What an outcome does: decided first, then stored. Each step promises for every sound breaker; on any other it is safe, and promises nothing.
 ghost use mathlib.Core.Path.{_≡_};
-ghost use mathlib.Core.Bool.{true, false};
+ghost use mathlib.Core.Bool.{true};
+ghost use lib.ListN.{length};
+ghost use Prim.Native.Nat.{_≤_};
+ghost use Rattle.error.specs.Choice.{bit};
 ghost use Rattle.error.specs.Told.{nothing};
-ghost use Rattle.history.specs.Change.{left, told};
+ghost use Rattle.history.specs.Change.{left, told, held};
 ghost use Rattle.trip.specs.declared.Config.{Config};
-ghost use Rattle.trip.specs.Policy.{policyOf, tripped};
+ghost use Rattle.trip.specs.Policy.{policyOf};
 ghost use Rattle.breaker.specs.Record.{State, settings, stored, sound};
 ghost use Rattle.breaker.specs.Answers.{finishedTold};
-ghost use Rattle.breaker.specs.Rules.{done, closing, inHalfOpen, inClosed, finish, settling, manual};
+ghost use Rattle.breaker.specs.Rules.{closing, settled, manual};
 ghost use Rattle.breaker.specs.Calls.{after, kept};
 ghost use Rattle.steps.specs.Steps.{Holds};
-ghost use Rattle.steps.specs.Locked.{recording, Makes};
-ghost use Rattle.breaker.specs.declared.Ticket.{Ticket};
+ghost use Rattle.steps.specs.Decide.{changed, Decides, placesAfter};
+use crate::Change;
 use crate::Recorded;
-use crate::update::one_less;
-use crate::update::one_more;
+use crate::decide::closed;
+use crate::decide::decide_closed;
+use crate::decide::decide_half_open;
 use crate::update::opened;
-use crate::update::transition;
 use crate::update::with_counts;
 use crate::update::with_history;
 use breaker::Breaker;
+use breaker::CLOSED;
 use breaker::Finished;
+use breaker::HALF_OPEN;
 use breaker::Settled;
 use breaker::Ticket;
+use breaker::items_of;
 use history::Changed;
+use history::Items;
 
 // Closes the breaker and empties its list.
-// Ruled out: a run of failures that is kept; open-until set to 0.
+// Ruled out: a run of failures that is kept; a place left as it was.
 pub fn close(b: Breaker, list: &mut [u64]) -> Breaker
     ensures { λ r. ⌜ (sound b (now (list .entry)) ≡ true → (c : Config) (st : State) → b ≡ stored c st → Holds c (closing st) r (now (list .exit))) ⌝ }
 {
-    let until = b.shared.open_until;
     let _emptied = history::clear(list, b.shared.len);
-    transition(with_history(with_counts(b, 0, 0, 0), 0, 0), 0, until)
+    closed(b)
 }
 
-fn record_outcome(b: Breaker, list: &mut [u64], now_ms: u64, failed: bool) -> Changed
-    ensures { λ r. ⌜ (sound b (now (list .entry)) ≡ true → (c : Config) (st : State) → Holds c st b (now (list .entry)) → left (told r) (now (list .exit)) ≡ recording failed (policyOf c) «now_ms» (st .list)) ⌝ }
+fn bit_of(failed: bool) -> u64
+    ensures { λ r. ⌜ r ≡ bit failed ⌝ }
 {
-    let c = b.config;
-    let len = b.shared.len;
-    if c.kind == 1 {
-        return Changed::Stored(len);
-    }
-    if c.kind == 2 {
-        return history::push_outcome(list, len, c.limit, failed);
-    }
     if failed {
-        return history::push_time(list, len, now_ms, c.period_ms);
+        return 1;
     }
-    history::evict_times(list, len, now_ms, c.period_ms)
+    0
 }
 
-fn trips(b: Breaker, list: &[u64], now_ms: u64) -> bool
-    ensures { λ r. ⌜ (sound b (now (list .entry)) ≡ true → (c : Config) (st : State) → Holds c st b (now (list .entry)) → r ≡ tripped (policyOf c) «now_ms» (st .run) (st .list)) ⌝ }
+// Stores the list after an outcome in Closed.
+fn store(b: Breaker, list: &mut [u64], now_ms: u64, failed: bool, gone: u32) -> Changed
+    ensures { λ r. ⌜ (sound b (now (list .entry)) ≡ true → (c : Config) (st : State) → Holds c st b (now (list .entry)) → length (changed (policyOf c) failed «now_ms» gone (st .list)) ≤ 4096 → left (told r) (now (list .exit)) ≡ held (changed (policyOf c) failed «now_ms» gone (st .list))) ⌝ }
 {
-    let c = b.config;
-    let h = b.shared;
-    if c.kind == 1 {
-        return trip::run_trips(h.run, c.limit);
+    let len = b.shared.len;
+    let items = items_of(b.config);
+    match items {
+        Items::Nothing => Changed::Stored(len),
+        Items::Outcomes(_) => history::turn_over(list, len, gone, bit_of(failed)),
+        Items::Times => {
+            if failed {
+                return history::turn_over(list, len, gone, now_ms);
+            }
+            history::drop_oldest(list, len, gone)
+        }
     }
-    if c.kind == 2 {
-        let failed = (history::count_failures(list, h.len) % 0x1_0000_0000) as u32;
-        return trip::ratio_trips(failed, h.len, c.min_calls, c.ratio_bits);
-    }
-    let recent = history::count_recent(list, h.len, history::cutoff(now_ms, c.period_ms));
-    trip::times_trip(recent, c.limit)
 }
 
-fn half_open_outcome(b: Breaker, list: &mut [u64], now_ms: u64, t: Ticket, success: bool) -> Breaker
-    ensures { λ r. ⌜ (sound b (now (list .entry)) ≡ true → (c : Config) (st : State) → Holds c st b (now (list .entry)) → after nothing r (now (list .exit)) ≡ kept c (done (inHalfOpen (settings c) «now_ms» (settling t success) st))) ⌝ }
+// An outcome in Closed, with a ticket that is not stale: decided, and its list stored. The caller makes the record.
+// Ruled out: a list stored where there is no room; a list left as it was where the run is counted.
+pub fn settle_closed(b: Breaker, list: &mut [u64], now_ms: u64, success: bool) -> Recorded
+    ensures { λ r. ⌜ (sound b (now (list .entry)) ≡ true → (c : Config) (st : State) → Holds c st b (now (list .entry)) → Decides (settings c) «now_ms» success st r × (now (list .exit) ≡ placesAfter (settings c) «now_ms» success st r)) ⌝ }
 {
-    let h = b.shared;
-    if !success {
-        return opened(b, now_ms);
+    let decided = decide_closed(b, list, now_ms, success);
+    match decided {
+        Recorded::Refused(_) => decided,
+        Recorded::Counted(change) => {
+            let _stored = store(b, list, now_ms, !success, change.gone);
+            decided
+        }
+        Recorded::Tripped(change) => {
+            let _stored = store(b, list, now_ms, !success, change.gone);
+            decided
+        }
     }
-    let good = one_more(h.successes);
-    if good >= b.config.required {
-        return close(b, list);
-    }
-    if t.probe {
-        return with_counts(b, one_less(h.inflight), h.trait_probes, good);
-    }
-    with_counts(b, h.inflight, h.trait_probes, good)
 }
 
 // A settle outside Closed, where nothing is refused: no answer beside the record, so that a loop over it keeps the record in place.
-// Ruled out: one that counts in Open; a failure counted as a success.
+// Ruled out: one that counts in Open; a list left as it was where the breaker closes.
 pub fn settle_unclosed(
     b: Breaker,
     list: &mut [u64],
@@ -94,52 +96,34 @@ pub fn settle_unclosed(
     t: Ticket,
     success: bool,
 ) -> Breaker
-    ensures { λ r. ⌜ (sound b (now (list .entry)) ≡ true → (b .shared .state ≡ 0 → ⊥) → (c : Config) (st : State) → Holds c st b (now (list .entry)) → after nothing r (now (list .exit)) ≡ kept c (finish (settings c) «now_ms» (settling t success) st)) ⌝ }
+    ensures { λ r. ⌜ (sound b (now (list .entry)) ≡ true → (b .shared .state ≡ 0 → ⊥) → (c : Config) (st : State) → Holds c st b (now (list .entry)) → after nothing r (now (list .exit)) ≡ kept c (settled (settings c) «now_ms» t success st)) ⌝ }
 {
-    let h = b.shared;
-    if t.generation != h.generation {
+    if t.generation != b.shared.generation {
         return b;
     }
-    if h.state != 1 {
+    if b.shared.state != HALF_OPEN {
         return b;
     }
-    half_open_outcome(b, list, now_ms, t, success)
-}
-
-// An outcome in Closed, with a ticket that is not stale: what the record becomes, and not the record, which so need not go through memory.
-// Ruled out: a success that trips; a failure that leaves the run.
-pub fn settle_closed(b: Breaker, list: &mut [u64], now_ms: u64, success: bool) -> Recorded
-    ensures { λ r. ⌜ (sound b (now (list .entry)) ≡ true → (c : Config) (st : State) → Holds c st b (now (list .entry)) → (t : Ticket) → Makes c st «now_ms» r (now (list .exit)) (kept c (inClosed (settings c) «now_ms» (settling t success) st))) ⌝ }
-{
-    match record_outcome(b, list, now_ms, !success) {
-        Changed::Refused(r) => Recorded::Refused(r),
-        Changed::Stored(len) => {
-            if success {
-                return Recorded::Counted(0, len);
-            }
-            let run = one_more(b.shared.run);
-            let counted = with_history(b, run, len);
-            if trips(counted, list, now_ms) {
-                return Recorded::Tripped(run, len);
-            }
-            Recorded::Counted(run, len)
-        }
+    let next = decide_half_open(b, now_ms, t, success);
+    if next.shared.state == CLOSED {
+        let _emptied = history::clear(list, b.shared.len);
+        return next;
     }
+    next
 }
 
 // A settle in any state.
 // Ruled out: a stale ticket that counts; a failure with no room that is told as done.
 pub fn settle_locked(b: Breaker, list: &mut [u64], now_ms: u64, t: Ticket, success: bool) -> Settled
-    ensures { λ r. ⌜ (sound b (now (list .entry)) ≡ true → (c : Config) (st : State) → Holds c st b (now (list .entry)) → after (finishedTold (r .answer)) (r .breaker) (now (list .exit)) ≡ kept c (finish (settings c) «now_ms» (settling t success) st)) ⌝ }
+    ensures { λ r. ⌜ (sound b (now (list .entry)) ≡ true → (c : Config) (st : State) → Holds c st b (now (list .entry)) → after (finishedTold (r .answer)) (r .breaker) (now (list .exit)) ≡ kept c (settled (settings c) «now_ms» t success st)) ⌝ }
 {
-    let h = b.shared;
-    if h.state != 0 {
+    if b.shared.state != CLOSED {
         return Settled {
             answer: Finished::Done,
             breaker: settle_unclosed(b, list, now_ms, t, success),
         };
     }
-    if t.generation != h.generation {
+    if t.generation != b.shared.generation {
         return Settled {
             answer: Finished::Done,
             breaker: b,
@@ -150,13 +134,13 @@ pub fn settle_locked(b: Breaker, list: &mut [u64], now_ms: u64, t: Ticket, succe
             answer: Finished::Refused(r),
             breaker: b,
         },
-        Recorded::Counted(run, len) => Settled {
+        Recorded::Counted(change) => Settled {
             answer: Finished::Done,
-            breaker: with_history(b, run, len),
+            breaker: with_history(b, change.run, change.len),
         },
-        Recorded::Tripped(run, len) => Settled {
+        Recorded::Tripped(change) => Settled {
             answer: Finished::Done,
-            breaker: opened(with_history(b, run, len), now_ms),
+            breaker: opened(with_history(b, change.run, change.len), now_ms),
         },
     }
 }
@@ -166,21 +150,22 @@ pub fn settle_locked(b: Breaker, list: &mut [u64], now_ms: u64, t: Ticket, succe
 pub fn manual_locked(b: Breaker, list: &mut [u64], now_ms: u64, success: bool) -> Settled
     ensures { λ r. ⌜ (sound b (now (list .entry)) ≡ true → (c : Config) (st : State) → Holds c st b (now (list .entry)) → after (finishedTold (r .answer)) (r .breaker) (now (list .exit)) ≡ kept c (manual (settings c) «now_ms» success st)) ⌝ }
 {
-    let h = b.shared;
+    let generation = b.shared.generation;
     let held = Ticket {
-        generation: h.generation,
+        generation,
         probe: true,
     };
     let bare = Ticket {
-        generation: h.generation,
+        generation,
         probe: false,
     };
-    if h.state != 1 {
+    if b.shared.state != HALF_OPEN {
         return settle_locked(b, list, now_ms, bare, success);
     }
-    if h.trait_probes == 0 {
+    let mut counts = b.shared.counts;
+    if counts.trait_probes == 0 {
         return settle_locked(b, list, now_ms, bare, success);
     }
-    let used = with_counts(b, h.inflight, h.trait_probes - 1, h.successes);
-    settle_locked(used, list, now_ms, held, success)
+    counts.trait_probes = counts.trait_probes - 1;
+    settle_locked(with_counts(b, counts), list, now_ms, held, success)
 }

@@ -8,14 +8,17 @@ ghost use Rattle.trip.specs.declared.Config.{Config};
 ghost use Rattle.breaker.specs.Record.{State, settings, stored};
 ghost use Rattle.breaker.specs.Rules.{next, withCounts, withHistory, moved, opening};
 use breaker::Breaker;
+use breaker::Counts;
+use breaker::OPEN;
+use breaker::no_counts;
 
-// Ruled out: inflight and trait probes exchanged; a run that is cleared with them.
-pub fn with_counts(mut b: Breaker, inflight: u32, trait_probes: u32, successes: u32) -> Breaker
-    ensures { λ r. ⌜ ((c : Config) (st : State) → b ≡ stored c st → r ≡ stored c (withCounts inflight «trait_probes» successes st)) ⌝ }
+// Ruled out: counts that stay; a run that is cleared with them.
+pub fn with_counts(mut b: Breaker, counts: Counts) -> Breaker
+    ensures { λ r. ⌜ ((c : Config) (st : State) → b ≡ stored c st → r ≡ stored c (withCounts counts st)) ⌝ }
 {
-    b.shared.inflight = inflight;
-    b.shared.trait_probes = trait_probes;
-    b.shared.successes = successes;
+    let mut shared = b.shared;
+    shared.counts = counts;
+    b.shared = shared;
     b
 }
 
@@ -79,5 +82,5 @@ pub fn opened(b: Breaker, now_ms: u64) -> Breaker
     ensures { λ r. ⌜ ((c : Config) (st : State) → b ≡ stored c st → r ≡ stored c (opening (settings c) «now_ms» st)) ⌝ }
 {
     let until = capped_sum(now_ms, b.config.cooldown_ms);
-    transition(with_counts(b, 0, 0, 0), 2, until)
+    transition(with_counts(b, no_counts()), OPEN, until)
 }

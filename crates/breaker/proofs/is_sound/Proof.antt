@@ -22,14 +22,21 @@ returns-2 c = simp (← c .before .before .before .sound-policy .ensures, not-fa
 
 returns-3 : tie.Need-returns-3
 unfolding sound soundConfig
-returns-3 c = simp (← c .before .before .before .before .before .sound-policy .ensures, not-false (c .before .before .before .before .before .sound-policy .result) (c .before .before .before .before .if1 .left), le-leb _ _ (c .before .before .if2 .left), lt-leb _ _ (c .if3 .taken))
+returns-3 c =
+    let at-if1 = c .before .before .before .before in
+    let at-sound-policy = at-if1 .before in
+    simp (← at-sound-policy .sound-policy .ensures, not-false (at-sound-policy .sound-policy .result) (at-if1 .if1 .left), le-leb _ _ (c .before .before .if2 .left), lt-leb _ _ (c .if3 .taken))
 
 sound-shared-requires : tie.Need-sound-shared-requires
 sound-shared-requires c κs = search needs
 
 returns-4 : tie.Need-returns-4
 unfolding sound soundConfig
-returns-4 c = simp (← c .before .before .before .before .before .before .before .sound-policy .ensures, not-false (c .before .before .before .before .before .before .before .sound-policy .result) (c .before .before .before .before .before .before .if1 .left), le-leb _ _ (c .before .before .before .before .if2 .left), le-leb _ _ (c .before .before .if3 .left), ← c .before .sound-shared .ensures, not-true (c .before .sound-shared .result) (c .if4 .taken))
+returns-4 c =
+    let at-if2 = c .before .before .before .before in
+    let at-if1 = at-if2 .before .before in
+    let at-sound-policy = at-if1 .before in
+    simp (← at-sound-policy .sound-policy .ensures, not-false (at-sound-policy .sound-policy .result) (at-if1 .if1 .left), le-leb _ _ (at-if2 .if2 .left), le-leb _ _ (c .before .before .if3 .left), ← c .before .sound-shared .ensures, not-true (c .before .sound-shared .result) (c .if4 .taken))
 
 items-of-requires : tie.Need-items-of-requires
 items-of-requires c κs = search needs
@@ -39,9 +46,14 @@ sound-list-requires c κs = search needs
 
 returns-5 : tie.Need-returns-5
 returns-5 c =
+    let at-if3 = c .before .before .before .before in
+    let at-if2 = at-if3 .before .before in
+    let at-if1 = at-if2 .before .before in
+    let at-sound-policy = at-if1 .before in
+    let start = at-sound-policy .before .before .before .before in
     c .sound-list .ensures
-    ∙ ap (λ (i : Items). soundList i (c .before .before .before .before .before .before .before .before .before .before .before .before .before .args .breaker .shared .len) (c .before .before .before .before .before .before .before .before .before .before .before .before .before .args .list .now)) (c .before .items-of .ensures)
-    ∙ sound-last (c .before .before .before .before .before .before .before .before .before .before .before .before .before .args .breaker) (c .before .before .before .before .before .before .before .before .before .before .before .before .before .args .list .now) (sym (c .before .before .before .before .before .before .before .before .before .sound-policy .ensures) ∙ not-false (c .before .before .before .before .before .before .before .before .before .sound-policy .result) (c .before .before .before .before .before .before .before .before .if1 .left)) (c .before .before .before .before .before .before .if2 .left) (c .before .before .before .before .if3 .left) (sym (c .before .before .before .sound-shared .ensures) ∙ not-false (c .before .before .before .sound-shared .result) (c .before .before .if4 .left))
+    ∙ ap (λ (i : Items). soundList i (start .args .breaker .shared .len) (start .args .list .now)) (c .before .items-of .ensures)
+    ∙ sound-last (start .args .breaker) (start .args .list .now) (sym (at-sound-policy .sound-policy .ensures) ∙ not-false (at-sound-policy .sound-policy .result) (at-if1 .if1 .left)) (at-if2 .if2 .left) (at-if3 .if3 .left) (sym (c .before .before .before .sound-shared .ensures) ∙ not-false (c .before .before .before .sound-shared .result) (c .before .before .if4 .left))
 
 pub is-sound-spec : {M : Type 1} → statement M
 is-sound-spec =

@@ -14,10 +14,14 @@ is-sound-requires : tie.Need-is-sound-requires
 is-sound-requires c κs = search needs
 
 returns-2 : tie.Need-returns-2
-returns-2 c = guarded-unsound Refused Sound (c .before .before .before .before .args .breaker) (c .before .before .before .before .args .list .now) (c .before .before .if1 .left) (sym (c .before .is-sound .ensures) ∙ not-true (c .before .is-sound .result) (c .if2 .taken))
+returns-2 c =
+    let start = c .before .before .before .before in
+    guarded-unsound Refused Sound (start .args .breaker) (start .args .list .now) (c .before .before .if1 .left) (sym (c .before .is-sound .ensures) ∙ not-true (c .before .is-sound .result) (c .if2 .taken))
 
 returns-3 : tie.Need-returns-3
-returns-3 c = guarded-done Refused Sound (c .before .before .before .before .args .breaker) (c .before .before .before .before .args .list .now) (sym (c .before .is-sound .ensures) ∙ not-false (c .before .is-sound .result) (c .if2 .left))
+returns-3 c =
+    let start = c .before .before .before .before in
+    guarded-done Refused Sound (start .args .breaker) (start .args .list .now) (sym (c .before .is-sound .ensures) ∙ not-false (c .before .is-sound .result) (c .if2 .left))
 
 pub test-spec : {M : Type 1} → statement M
 test-spec = tie.close (tie.spec returns is-sound-requires returns-2 returns-3)

@@ -40,7 +40,9 @@ any-bits-requires : tie.Need-any-bits-requires
 any-bits-requires c κs = search needs
 
 returns : tie.Need-returns
-returns c = bits-more _ _ _ _ _ (c .before .before .bits-in-turn .ensures) (c .any-bits .ensures) (drop-part (c .before .before .before .before .before .args .n) (c .before .before .before .before .before .args .n + c .before .before .before .before .before .args .n % 2) (c .before .before .before .before .before .args .list .now) (omega arith))
+returns c =
+    let start = c .before .before .before .before .before in
+    bits-more _ _ _ _ _ (c .before .before .bits-in-turn .ensures) (c .any-bits .ensures) (drop-part (start .args .n) (start .args .n + start .args .n % 2) (start .args .list .now) (omega arith))
 
 pub bits-from-spec : {M : Type 1} → statement M
 bits-from-spec =

@@ -23,10 +23,12 @@ unfolding cleared
 returns-2 c = simp (eq-eqb _ _ (c .before .before .if1 .left), ← c .before .may-have .ensures, not-true (c .before .may-have .result) (c .if2 .taken))
 
 short : (c : tie.Else2) → c .before .before .before .before .args .len ≤ 4096
-short c = leb-true (c .before .before .before .before .args .len) 4096 (sym (c .before .may-have .ensures) ∙ not-false (c .before .may-have .result) (c .if2 .left))
+short c =
+    let start = c .before .before .before .before in
+    leb-true (start .args .len) 4096 (sym (c .before .may-have .ensures) ∙ not-false (c .before .may-have .result) (c .if2 .left))
 
-drop-oldest-requires : tie.Need-drop-oldest-requires
-drop-oldest-requires c κs = omega (arith, short (c .before), c .before .before .before .if1 .left)
+remove-requires : tie.Need-remove-requires
+remove-requires c κs = omega (arith, short (c .before), c .before .before .before .if1 .left)
 
 same-length : tie.Need-same-length
 same-length c = search needs
@@ -34,12 +36,15 @@ same-length c = search needs
 returns-3 : tie.Need-returns-3
 unfolding cleared
 returns-3 c =
-    let s = c .before .before .before .before .before .before .before .before .args .list .now in
-    let n = c .before .before .before .before .before .before .before .before .args .len in
-    let g : drop n (take n s) ≡ [] = drop-of-length-le (take n s) {i = n} (omega (arith, length-take-le n s (omega (arith, short (c .before .before .before .before), c .before .before .before .before .before .before .if1 .left)))) in
-    simp (eq-eqb _ _ (c .before .before .before .before .before .before .if1 .left), le-leb _ _ (short (c .before .before .before .before)), c .before .before .drop-oldest .ensures, g)
+    let place = c .before .before .before .before in
+    let at-if1 = place .before .before in
+    let start = at-if1 .before .before in
+    let s = start .args .list .now in
+    let n = start .args .len in
+    let g : drop n (take n s) ≡ [] = drop-of-length-le (take n s) {i = n} (omega (arith, length-take-le n s (omega (arith, short (place), at-if1 .if1 .left)))) in
+    simp (eq-eqb _ _ (at-if1 .if1 .left), le-leb _ _ (short (place)), c .before .before .remove .ensures, g)
 
 pub clear-spec : {M : Type 1} → statement M
 clear-spec =
     tie.close
-    (tie.spec returns may-have-requires returns-2 drop-oldest-requires same-length returns-3)
+    (tie.spec returns may-have-requires returns-2 remove-requires same-length returns-3)

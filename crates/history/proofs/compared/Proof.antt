@@ -39,7 +39,8 @@ loop-less c = search needs
 
 loop-again : tie.Need-loop-again Inv-loop μ-loop
 loop-again c =
-    sum-turn (λ t. leb (c .before .before .before .before .args .cutoff) t) (c .before .before .before .before .args .s .now) (c .before .before .before .loop .i) (c .before .before .before .loop .n) (c .if1 .n) (c .before .before .loop-test .taken) (c .before .before .before .loop .inv .1) (c .before .before .before .loop .inv .2)
+    let start = c .before .before .before .before in
+    sum-turn (λ t. leb (start .args .cutoff) t) (start .args .s .now) (c .before .before .before .loop .i) (c .before .before .before .loop .n) (c .if1 .n) (c .before .before .loop-test .taken) (c .before .before .before .loop .inv .1) (c .before .before .before .loop .inv .2)
     (⊎-elim (λ w. inl (le-leb _ _ (w .0 .taken), w .1)) (λ w. inr (lt-leb _ _ (w .0 .left), w .1)) (c .if1 .came))
 
 returns : tie.Need-returns Inv-loop μ-loop

@@ -48,7 +48,9 @@ loop-less : tie.Need-loop-less Inv-loop μ-loop
 loop-less c = search needs
 
 loop-again : tie.Need-loop-again Inv-loop μ-loop
-loop-again c = (search needs, recent-more _ _ _ _ _ _ (c .before .before .before .loop .inv .1) (c .differences-in-turn .ensures) (take-part (c .before .before .before .loop .i) (c .before .before .before .loop .i + 32) (c .before .before .before .before .before .args .s .now) (omega arith)))
+loop-again c =
+    let start = c .before .before .before .before .before in
+    (search needs, recent-more _ _ _ _ _ _ (c .before .before .before .loop .inv .1) (c .differences-in-turn .ensures) (take-part (c .before .before .before .loop .i) (c .before .before .before .loop .i + 32) (start .args .s .now) (omega arith)))
 
 mul-differences-in-turn-2 : tie.Need-mul-differences-in-turn-2 Inv-loop μ-loop
 mul-differences-in-turn-2 c = search needs
@@ -66,7 +68,9 @@ differences-in-turn-requires-2 : tie.Need-differences-in-turn-requires-2 Inv-loo
 differences-in-turn-requires-2 c κs = search needs
 
 returns : tie.Need-returns Inv-loop μ-loop
-returns c = recent-more _ _ _ _ _ _ (c .before .before .before .loop .inv .1) (c .differences-in-turn2 .ensures) (take-whole (c .before .before .before .loop .i) (c .before .before .before .before .before .args .s .now))
+returns c =
+    let start = c .before .before .before .before .before in
+    recent-more _ _ _ _ _ _ (c .before .before .before .loop .inv .1) (c .differences-in-turn2 .ensures) (take-whole (c .before .before .before .loop .i) (start .args .s .now))
 
 pub differences-spec : {M : Type 1} → statement M
 differences-spec =

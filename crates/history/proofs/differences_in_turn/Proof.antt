@@ -35,7 +35,9 @@ loop-less : tie.Need-loop-less Inv-loop μ-loop
 loop-less c = search needs
 
 loop-again : tie.Need-loop-again Inv-loop μ-loop
-loop-again c = (search needs, recent-next (c .before .before .before .before .before .args .cutoff) (c .before .before .before .loop .bits) (c .wrapping-sub-u64 .result) (c .before .before .before .before .before .args .s .now) (c .before .before .before .loop .i) (c .before .before .loop-test .taken) (c .before .before .before .loop .inv .1) (c .wrapping-sub-u64 .ensures))
+loop-again c =
+    let start = c .before .before .before .before .before in
+    (search needs, recent-next (start .args .cutoff) (c .before .before .before .loop .bits) (c .wrapping-sub-u64 .result) (start .args .s .now) (c .before .before .before .loop .i) (c .before .before .loop-test .taken) (c .before .before .before .loop .inv .1) (c .wrapping-sub-u64 .ensures))
 
 returns : tie.Need-returns Inv-loop μ-loop
 returns c = subst (AllRecent (c .before .before .before .args .cutoff) (c .before .loop .bits)) (take-all _ _ (c .loop-test .left)) (c .before .loop .inv .1)

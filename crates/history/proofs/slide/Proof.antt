@@ -17,7 +17,10 @@ same-length : tie.Need-same-length
 same-length c = search needs
 
 returns-2 : tie.Need-returns-2
-returns-2 c = c .before .before .shift .ensures ∙ ap (λ (k : ℕ). take (c .before .before .before .before .before .before .before .args .n) (drop k (c .before .before .before .before .before .before .before .args .s .now)) ++ drop (c .before .before .before .before .before .before .before .args .n) (c .before .before .before .before .before .before .before .args .s .now)) (sym (c .before .before .before .before .if2 .taken))
+returns-2 c =
+    let at-if2 = c .before .before .before .before in
+    let start = at-if2 .before .before .before in
+    c .before .before .shift .ensures ∙ ap (λ (k : ℕ). take (start .args .n) (drop k (start .args .s .now)) ++ drop (start .args .n) (start .args .s .now)) (sym (at-if2 .if2 .taken))
 
 shift-requires-2 : tie.Need-shift-requires-2
 shift-requires-2 c κs = search needs

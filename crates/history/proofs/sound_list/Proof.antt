@@ -6,7 +6,7 @@ use borrow.Author.Needs.{needs}
 use borrow.Author.Tests.{eq-eqb, ne-eqb, lt-ltb, le-ltb, not-true, not-false}
 use lib.Seq.{length-take-le}
 use lib.Dec.{ltb}
-use Rattle.history.specs.Items.{soundList, known, fits, view}
+use Rattle.history.specs.Items.{soundList, areItems, fits, view}
 use Rattle.history.proofs.Sound.{fits-le}
 use Rattle.history.proofs.sound_list.Statement.{statement}
 use Rattle.history.proofs.sound_list.Tie as tie
@@ -26,10 +26,12 @@ fitting : (c : tie.Else2) → fits (c .before .before .before .before .args .ite
 fitting c = sym (c .before .may-have .ensures) ∙ not-false (c .before .may-have .result) (c .if2 .left)
 
 bits-from-requires : tie.Need-bits-from-requires
-bits-from-requires c κs = (c .before .before .if1 .left, fits-le (c .before .before .before .before .args .items) (c .before .before .before .before .args .len) (fitting c))
+bits-from-requires c κs =
+    let start = c .before .before .before .before in
+    (c .before .before .if1 .left, fits-le (start .args .items) (start .args .len) (fitting c))
 
 -- what is left to test: the bits past the list, and the items
-past : (c : tie.After-bits-from) → soundList (c .before .before .before .before .before .args .items) (c .before .before .before .before .before .args .len) (c .before .before .before .before .before .args .list .now) ≡ (ltb (c .bits-from .result) 1 && known (c .before .before .before .before .before .args .items) (view (c .before .before .before .before .before .args .len) (c .before .before .before .before .before .args .list .now)))
+past : (c : tie.After-bits-from) → soundList (c .before .before .before .before .before .args .items) (c .before .before .before .before .before .args .len) (c .before .before .before .before .before .args .list .now) ≡ (ltb (c .bits-from .result) 1 && areItems (c .before .before .before .before .before .args .items) (view (c .before .before .before .before .before .args .len) (c .before .before .before .before .before .args .list .now)))
 unfolding soundList
 past c = simp (eq-eqb _ _ (c .before .before .before .if1 .left), fitting (c .before), ← c .bits-from .ensures 0)
 
@@ -43,7 +45,11 @@ enum-told-2 : tie.Need-enum-told-2
 enum-told-2 c = search needs
 
 slice-aggregate-any-bits : tie.Need-slice-aggregate-any-bits
-slice-aggregate-any-bits c = sym (length-take-le _ _ (omega (arith, fits-le (c .before .before .before .before .before .before .before .before .before .args .items) (c .before .before .before .before .before .before .before .before .before .args .len) (fitting (c .before .before .before .before .before)), c .before .before .before .before .before .before .before .if1 .left)))
+slice-aggregate-any-bits c =
+    let place = c .before .before .before .before .before in
+    let at-if1 = place .before .before in
+    let start = at-if1 .before .before in
+    sym (length-take-le _ _ (omega (arith, fits-le (start .args .items) (start .args .len) (fitting (place)), at-if1 .if1 .left)))
 
 any-bits-requires : tie.Need-any-bits-requires
 any-bits-requires c κs = search needs
@@ -55,7 +61,10 @@ returns-4 : tie.Need-returns-4
 returns-4 c = sym (past (c .before .before .before) ∙ simp (lt-ltb _ _ (c .before .before .if3 .left), c .enum-told .given .1))
 
 returns-5 : tie.Need-returns-5
-returns-5 c = c .any-bits .ensures 1 ∙ sym (past (c .before .before .before .before .before) ∙ simp (lt-ltb _ _ (c .before .before .before .before .if3 .left), c .before .before .enum-told2 .given .1))
+returns-5 c =
+    let at-if3 = c .before .before .before .before in
+    let place = at-if3 .before in
+    c .any-bits .ensures 1 ∙ sym (past (place) ∙ simp (lt-ltb _ _ (at-if3 .if3 .left), c .before .before .enum-told2 .given .1))
 
 returns-6 : tie.Need-returns-6
 returns-6 c = sym (past (c .before .before .before) ∙ simp (lt-ltb _ _ (c .before .before .if3 .left), c .enum-told3 .given .1))

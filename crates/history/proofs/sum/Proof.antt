@@ -4,14 +4,14 @@ use mathlib.Core.Path.{_≡_, refl}
 use native.Mathlib.Omega.{arith}
 use borrow.Author.Needs.{needs}
 use lib.ListN.{length, take}
-use Rattle.history.specs.Items.{sumOf, total}
-use Rattle.history.proofs.Counts.{total-more}
+use Rattle.history.specs.Items.{sumOf, itemSum}
+use Rattle.history.proofs.Counts.{item-sum-more}
 use Rattle.history.proofs.Laws.{take-part, take-whole}
 use Rattle.history.proofs.sum.Statement.{statement}
 use Rattle.history.proofs.sum.Tie as tie
 
 abbrev Inv-loop : tie.InvT-loop
-Inv-loop s n₀ i₀ n i = (i ≤ length s) × (n ≡ total (take i s) % 2 ^ 64)
+Inv-loop s n₀ i₀ n i = (i ≤ length s) × (n ≡ itemSum (take i s) % 2 ^ 64)
 
 abbrev μ-loop : tie.MeasureT-loop
 μ-loop s n₀ i₀ n i = length s - i
@@ -51,7 +51,10 @@ loop-less : tie.Need-loop-less Inv-loop μ-loop
 loop-less c = search needs
 
 loop-again : tie.Need-loop-again Inv-loop μ-loop
-loop-again c = (search needs, total-more _ _ _ _ _ _ (c .before .before .before .before .loop .inv .1) (c .before .sum-in-turn .ensures) (c .wrapping-add-u64 .ensures) (take-part (c .before .before .before .before .loop .i) (c .before .before .before .before .loop .i + 32) (c .before .before .before .before .before .before .args .s .now) (omega arith)))
+loop-again c =
+    let at-loop = c .before .before .before .before in
+    let start = at-loop .before .before in
+    (search needs, item-sum-more _ _ _ _ _ _ (at-loop .loop .inv .1) (c .before .sum-in-turn .ensures) (c .wrapping-add-u64 .ensures) (take-part (at-loop .loop .i) (at-loop .loop .i + 32) (start .args .s .now) (omega arith)))
 
 mul-sum-in-turn-2 : tie.Need-mul-sum-in-turn-2 Inv-loop μ-loop
 mul-sum-in-turn-2 c = search needs
@@ -72,7 +75,10 @@ wrapping-add-u64-requires-2 : tie.Need-wrapping-add-u64-requires-2 Inv-loop μ-l
 wrapping-add-u64-requires-2 c κs = search needs
 
 returns : tie.Need-returns Inv-loop μ-loop
-returns c = total-more _ _ _ _ _ _ (c .before .before .before .before .loop .inv .1) (c .before .sum-in-turn2 .ensures) (c .wrapping-add-u642 .ensures) (take-whole (c .before .before .before .before .loop .i) (c .before .before .before .before .before .before .args .s .now))
+returns c =
+    let at-loop = c .before .before .before .before in
+    let start = at-loop .before .before in
+    item-sum-more _ _ _ _ _ _ (at-loop .loop .inv .1) (c .before .sum-in-turn2 .ensures) (c .wrapping-add-u642 .ensures) (take-whole (at-loop .loop .i) (start .args .s .now))
 
 pub sum-spec : {M : Type 1} → statement M
 sum-spec =

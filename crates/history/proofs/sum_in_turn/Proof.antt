@@ -5,13 +5,13 @@ use native.Mathlib.Omega.{arith}
 use borrow.Author.Needs.{needs}
 use lib.ListN.{length, take}
 use lib.Seq.{take-all}
-use Rattle.history.specs.Items.{sumOf, total}
+use Rattle.history.specs.Items.{sumOf, itemSum}
 use Rattle.history.proofs.Counts.{sum-more}
 use Rattle.history.proofs.sum_in_turn.Statement.{statement}
 use Rattle.history.proofs.sum_in_turn.Tie as tie
 
 abbrev Inv-loop : tie.InvT-loop
-Inv-loop s n₀ i₀ n i = (i ≤ length s) × (n ≡ total (take i s) % 2 ^ 64)
+Inv-loop s n₀ i₀ n i = (i ≤ length s) × (n ≡ itemSum (take i s) % 2 ^ 64)
 
 abbrev μ-loop : tie.MeasureT-loop
 μ-loop s n₀ i₀ n i = length s - i
@@ -36,10 +36,12 @@ loop-less : tie.Need-loop-less Inv-loop μ-loop
 loop-less c = search needs
 
 loop-again : tie.Need-loop-again Inv-loop μ-loop
-loop-again c = (search needs, omega (arith, c .wrapping-add-u64 .ensures, c .before .before .before .loop .inv .1, sum-more (λ x. x) (c .before .before .before .before .before .args .s .now) (c .before .before .before .loop .i) (c .before .before .loop-test .taken)))
+loop-again c =
+    let start = c .before .before .before .before .before in
+    (search needs, omega (arith, c .wrapping-add-u64 .ensures, c .before .before .before .loop .inv .1, sum-more (λ x. x) (start .args .s .now) (c .before .before .before .loop .i) (c .before .before .loop-test .taken)))
 
 returns : tie.Need-returns Inv-loop μ-loop
-returns c = c .before .loop .inv .1 ∙ ap (λ t. total t % 2 ^ 64) (take-all (c .before .loop .i) (c .before .before .before .args .s .now) (c .loop-test .left))
+returns c = c .before .loop .inv .1 ∙ ap (λ t. itemSum t % 2 ^ 64) (take-all (c .before .loop .i) (c .before .before .before .args .s .now) (c .loop-test .left))
 
 pub sum-in-turn-spec : {M : Type 1} → statement M
 sum-in-turn-spec =

@@ -34,8 +34,10 @@ int-to-float-result-2 c = search needs
 returns-4 : tie.Need-returns-4
 unfolding ratioReached
 returns-4 c =
-    ap (λ (q : Float). le (ofBits binary64 (c .before .before .before .before .before .args .ratio-bits)) q) (div-whole binary64 (c .before .before .before .before .before .args .failed) (c .before .before .before .before .before .args .calls) (c .before .before .before .before .if1 .left) (omega (arith, c .before .before .before .before .before .fits .failed)) (omega (arith, c .before .before .before .before .before .fits .calls)))
-    ∙ simp (le-leb _ _ (c .before .before .before .before .if1 .left), le-leb _ _ (c .before .before .before .if2 .left))
+    let at-if1 = c .before .before .before .before in
+    let start = at-if1 .before in
+    ap (λ (q : Float). le (ofBits binary64 (start .args .ratio-bits)) q) (div-whole binary64 (start .args .failed) (start .args .calls) (at-if1 .if1 .left) (omega (arith, start .fits .failed)) (omega (arith, start .fits .calls)))
+    ∙ simp (le-leb _ _ (at-if1 .if1 .left), le-leb _ _ (c .before .before .before .if2 .left))
 
 pub ratio-trips-spec : {M : Type 1} → statement M
 ratio-trips-spec =

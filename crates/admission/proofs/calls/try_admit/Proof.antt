@@ -8,7 +8,6 @@ use Rattle.breaker.specs.Rules as Rules
 use mathlib.Core.List.{[], _∷_}
 use Rattle.error.specs.Told.{tell}
 use Rattle.breaker.specs.declared.Decision.{Decision}
-use Rattle.breaker.specs.Record.{settings}
 use Rattle.admission.proofs.Admitting.{tried-shed, tried-granted, tried-back}
 use Rattle.breaker.proofs.Guard.{tested-sound, sound-refused, sound-done}
 use Rattle.steps.proofs.Holding.{holds}
@@ -74,8 +73,8 @@ same-length-4 c = search needs
 
 returns-4 : tie.Need-returns-4
 returns-4 c =
-    tried-back (c .before .before .before .before .before .before .before .before .before .before .before .before .args .now-ms) (c .before .before .before .before .before .before .before .before .before .before .before .before .args .breaker) (c .before .before .before .before .before .before .before .before .before .before .before .before .args .list .now) (tested (c .before .before .before .before .before .before .before)) (c .before .before .before .before .before .before .before .before .before .before .before .before .args .inner) (c .before .before .before .before .before .before .before .before .before .before .before .before .args .capacity) (c .before .before .before .before .t .given .0 .0) (c .before .before .before .before .t .given .0 .1 .0) (sym (c .before .before .before .before .t .given .1) ∙ c .before .before .before .before .before .before .admit-locked .ensures (c .before .before .before .before .before .before .before .before .before .before .before .before .args .breaker .config) (state (c .before .before .before .before .before .before .before .before .before .before .before .before .args .breaker) (c .before .before .before .before .before .before .before .before .before .before .before .before .args .list .now)) (holds (c .before .before .before .before .before .before .before .before .before .before .before .before .args .breaker) (c .before .before .before .before .before .before .before .before .before .before .before .before .args .list .now) (tested (c .before .before .before .before .before .before .before)) .0)) (tell 7 []) (c .abort-locked .result) (λ st′ q. c .abort-locked .ensures (c .before .before .before .before .before .before .before .before .before .before .before .before .args .breaker .config) st′ (c .before .before .before .before .before .before .before .before .before .before .before .before .args .now-ms) q)
-    (λ st′. ap (λ (i : Decision). Calls.tryInner i (c .before .before .before .before .before .before .before .before .before .before .before .before .args .capacity) (c .before .before .before .before .before .before .before .before .before .before .before .before .args .now-ms) (settings (c .before .before .before .before .before .before .before .before .before .before .before .before .args .breaker .config)) (Rules.granted (c .before .before .before .before .t .given .0 .0) st′) (state (c .before .before .before .before .before .before .before .before .before .before .before .before .args .breaker) (c .before .before .before .before .before .before .before .before .before .before .before .before .args .list .now))) (c .before .enum-told3 .given .1))
+    tried-back (c .before .before .before .before .before .before .before .before .before .before .before .before .args .now-ms) (c .before .before .before .before .before .before .before .before .before .before .before .before .args .breaker) (c .before .before .before .before .before .before .before .before .before .before .before .before .args .list .now) (tested (c .before .before .before .before .before .before .before)) (c .before .before .before .before .before .before .before .before .before .before .before .before .args .inner) (c .before .before .before .before .before .before .before .before .before .before .before .before .args .capacity) (c .before .before .before .before .t .given .0 .0) (c .before .before .before .before .t .given .0 .1 .0) (sym (c .before .before .before .before .t .given .1) ∙ c .before .before .before .before .before .before .admit-locked .ensures (c .before .before .before .before .before .before .before .before .before .before .before .before .args .breaker .config) (state (c .before .before .before .before .before .before .before .before .before .before .before .before .args .breaker) (c .before .before .before .before .before .before .before .before .before .before .before .before .args .list .now)) (holds (c .before .before .before .before .before .before .before .before .before .before .before .before .args .breaker) (c .before .before .before .before .before .before .before .before .before .before .before .before .args .list .now) (tested (c .before .before .before .before .before .before .before)) .0)) (tell 7 []) (c .abort-locked .result) (λ st′ q. c .abort-locked .ensures (c .before .before .before .before .before .before .before .before .before .before .before .before .args .breaker .config) st′ q)
+    (λ st′. ap (λ (i : Decision). Calls.tryInner i (c .before .before .before .before .before .before .before .before .before .before .before .before .args .capacity) (Rules.granted (c .before .before .before .before .t .given .0 .0) st′) (state (c .before .before .before .before .before .before .before .before .before .before .before .before .args .breaker) (c .before .before .before .before .before .before .before .before .before .before .before .before .args .list .now))) (c .before .enum-told3 .given .1))
     ∙ sound-done (Calls.tryAdmit (c .before .before .before .before .before .before .before .before .before .before .before .before .args .inner) (c .before .before .before .before .before .before .before .before .before .before .before .before .args .capacity) (c .before .before .before .before .before .before .before .before .before .before .before .before .args .now-ms)) (c .before .before .before .before .before .before .before .before .before .before .before .before .args .breaker) (c .before .before .before .before .before .before .before .before .before .before .before .before .args .list .now) (tested (c .before .before .before .before .before .before .before))
 
 same-length-5 : tie.Need-same-length-5
@@ -83,8 +82,8 @@ same-length-5 c = search needs
 
 returns-5 : tie.Need-returns-5
 returns-5 c =
-    tried-back (c .before .before .before .before .before .before .before .before .before .before .before .before .args .now-ms) (c .before .before .before .before .before .before .before .before .before .before .before .before .args .breaker) (c .before .before .before .before .before .before .before .before .before .before .before .before .args .list .now) (tested (c .before .before .before .before .before .before .before)) (c .before .before .before .before .before .before .before .before .before .before .before .before .args .inner) (c .before .before .before .before .before .before .before .before .before .before .before .before .args .capacity) (c .before .before .before .before .t .given .0 .0) (c .before .before .before .before .t .given .0 .1 .0) (sym (c .before .before .before .before .t .given .1) ∙ c .before .before .before .before .before .before .admit-locked .ensures (c .before .before .before .before .before .before .before .before .before .before .before .before .args .breaker .config) (state (c .before .before .before .before .before .before .before .before .before .before .before .before .args .breaker) (c .before .before .before .before .before .before .before .before .before .before .before .before .args .list .now)) (holds (c .before .before .before .before .before .before .before .before .before .before .before .before .args .breaker) (c .before .before .before .before .before .before .before .before .before .before .before .before .args .list .now) (tested (c .before .before .before .before .before .before .before)) .0)) (tell 8 (1 ∷ c .before .before .before .before .before .before .before .before .before .before .before .before .args .capacity ∷ [])) (c .abort-locked2 .result) (λ st′ q. c .abort-locked2 .ensures (c .before .before .before .before .before .before .before .before .before .before .before .before .args .breaker .config) st′ (c .before .before .before .before .before .before .before .before .before .before .before .before .args .now-ms) q)
-    (λ st′. ap (λ (i : Decision). Calls.tryInner i (c .before .before .before .before .before .before .before .before .before .before .before .before .args .capacity) (c .before .before .before .before .before .before .before .before .before .before .before .before .args .now-ms) (settings (c .before .before .before .before .before .before .before .before .before .before .before .before .args .breaker .config)) (Rules.granted (c .before .before .before .before .t .given .0 .0) st′) (state (c .before .before .before .before .before .before .before .before .before .before .before .before .args .breaker) (c .before .before .before .before .before .before .before .before .before .before .before .before .args .list .now))) (c .before .enum-told4 .given .1))
+    tried-back (c .before .before .before .before .before .before .before .before .before .before .before .before .args .now-ms) (c .before .before .before .before .before .before .before .before .before .before .before .before .args .breaker) (c .before .before .before .before .before .before .before .before .before .before .before .before .args .list .now) (tested (c .before .before .before .before .before .before .before)) (c .before .before .before .before .before .before .before .before .before .before .before .before .args .inner) (c .before .before .before .before .before .before .before .before .before .before .before .before .args .capacity) (c .before .before .before .before .t .given .0 .0) (c .before .before .before .before .t .given .0 .1 .0) (sym (c .before .before .before .before .t .given .1) ∙ c .before .before .before .before .before .before .admit-locked .ensures (c .before .before .before .before .before .before .before .before .before .before .before .before .args .breaker .config) (state (c .before .before .before .before .before .before .before .before .before .before .before .before .args .breaker) (c .before .before .before .before .before .before .before .before .before .before .before .before .args .list .now)) (holds (c .before .before .before .before .before .before .before .before .before .before .before .before .args .breaker) (c .before .before .before .before .before .before .before .before .before .before .before .before .args .list .now) (tested (c .before .before .before .before .before .before .before)) .0)) (tell 8 (1 ∷ c .before .before .before .before .before .before .before .before .before .before .before .before .args .capacity ∷ [])) (c .abort-locked2 .result) (λ st′ q. c .abort-locked2 .ensures (c .before .before .before .before .before .before .before .before .before .before .before .before .args .breaker .config) st′ q)
+    (λ st′. ap (λ (i : Decision). Calls.tryInner i (c .before .before .before .before .before .before .before .before .before .before .before .before .args .capacity) (Rules.granted (c .before .before .before .before .t .given .0 .0) st′) (state (c .before .before .before .before .before .before .before .before .before .before .before .before .args .breaker) (c .before .before .before .before .before .before .before .before .before .before .before .before .args .list .now))) (c .before .enum-told4 .given .1))
     ∙ sound-done (Calls.tryAdmit (c .before .before .before .before .before .before .before .before .before .before .before .before .args .inner) (c .before .before .before .before .before .before .before .before .before .before .before .before .args .capacity) (c .before .before .before .before .before .before .before .before .before .before .before .before .args .now-ms)) (c .before .before .before .before .before .before .before .before .before .before .before .before .args .breaker) (c .before .before .before .before .before .before .before .before .before .before .before .before .args .list .now) (tested (c .before .before .before .before .before .before .before))
 
 pub try-admit-spec : {M : Type 1} → statement M

@@ -8,8 +8,7 @@ use Rattle.error.specs.Told.{tell}
 use Rattle.breaker.specs.declared.Decision.{Decision}
 use Rattle.breaker.specs.declared.Decision.the-variants.{Retry}
 use Rattle.breaker.specs.declared.Delay.{Delay}
-use Rattle.breaker.specs.Record.{settings}
-use Rattle.breaker.specs.Answers.{decisionValues}
+use Rattle.breaker.specs.Answers.{decisionValues, isAcquired}
 use Rattle.admission.proofs.Admitting.{handed-shed, handed-on, handed-back}
 use Rattle.breaker.proofs.Guard.{tested-sound, sound-refused, sound-done}
 use Rattle.steps.proofs.Holding.{holds}
@@ -63,22 +62,22 @@ same-length-2 c = search needs
 
 returns-2 : tie.Need-returns-2
 returns-2 c =
-    handed-shed (c .before .before .before .before .before .before .before .before .before .args .now-ms) (c .before .before .before .before .before .before .before .before .before .args .breaker) (c .before .before .before .before .before .before .before .before .before .args .list .now) (tested (c .before .before .before .before)) (λ a. Calls.acquireInner (c .before .before .before .before .before .before .before .before .before .args .inner) (c .before .before .before .before .before .before .before .before .before .args .now-ms) (settings (c .before .before .before .before .before .before .before .before .before .args .breaker .config)) a (state (c .before .before .before .before .before .before .before .before .before .args .breaker) (c .before .before .before .before .before .before .before .before .before .args .list .now))) (tell 0 (decisionValues (Retry (c .before .d .given .0 .0)))) (λ ms. tell 0 (decisionValues (Calls.retry ms))) (λ ms. refl) (c .before .d .given .0 .0) (sym (c .before .d .given .1) ∙ c .before .before .before .admit-as-locked .ensures (c .before .before .before .before .before .before .before .before .before .args .breaker .config) (state (c .before .before .before .before .before .before .before .before .before .args .breaker) (c .before .before .before .before .before .before .before .before .before .args .list .now)) (holds (c .before .before .before .before .before .before .before .before .before .args .breaker) (c .before .before .before .before .before .before .before .before .before .args .list .now) (tested (c .before .before .before .before)) .0)) (λ ms r. ap (λ (x : Delay). tell 0 (decisionValues (Retry x))) r)
+    handed-shed (c .before .before .before .before .before .before .before .before .before .args .now-ms) (c .before .before .before .before .before .before .before .before .before .args .breaker) (c .before .before .before .before .before .before .before .before .before .args .list .now) (tested (c .before .before .before .before)) (λ a. Calls.acquireInner (c .before .before .before .before .before .before .before .before .before .args .inner) a (state (c .before .before .before .before .before .before .before .before .before .args .breaker) (c .before .before .before .before .before .before .before .before .before .args .list .now))) (tell 0 (decisionValues (Retry (c .before .d .given .0 .0)))) (λ ms. tell 0 (decisionValues (Calls.retry ms))) (λ ms. refl) (c .before .d .given .0 .0) (sym (c .before .d .given .1) ∙ c .before .before .before .admit-as-locked .ensures (c .before .before .before .before .before .before .before .before .before .args .breaker .config) (state (c .before .before .before .before .before .before .before .before .before .args .breaker) (c .before .before .before .before .before .before .before .before .before .args .list .now)) (holds (c .before .before .before .before .before .before .before .before .before .args .breaker) (c .before .before .before .before .before .before .before .before .before .args .list .now) (tested (c .before .before .before .before)) .0)) (λ ms r. ap (λ (x : Delay). tell 0 (decisionValues (Retry x))) r)
     ∙ sound-done (Calls.acquireCost (c .before .before .before .before .before .before .before .before .before .args .inner) (c .before .before .before .before .before .before .before .before .before .args .now-ms)) (c .before .before .before .before .before .before .before .before .before .args .breaker) (c .before .before .before .before .before .before .before .before .before .args .list .now) (tested (c .before .before .before .before))
 
 same-length-3 : tie.Need-same-length-3
 same-length-3 c = search needs
 
 returns-3 : tie.Need-returns-3
-returns-3 c = handed-on (c .before .before .before .before .before .before .before .before .before .before .before .args .now-ms) (c .before .before .before .before .before .before .before .before .before .before .before .args .breaker) (c .before .before .before .before .before .before .before .before .before .before .before .args .list .now) (tested (c .before .before .before .before .before .before)) (λ a. Calls.acquireInner (c .before .before .before .before .before .before .before .before .before .before .before .args .inner) (c .before .before .before .before .before .before .before .before .before .before .before .args .now-ms) (settings (c .before .before .before .before .before .before .before .before .before .before .before .args .breaker .config)) a (state (c .before .before .before .before .before .before .before .before .before .before .before .args .breaker) (c .before .before .before .before .before .before .before .before .before .before .before .args .list .now))) (tell 0 (decisionValues (c .before .before .before .before .before .before .before .before .before .before .before .args .inner))) (c .before .before .before .t .given .0 .0) (c .before .before .before .t .given .0 .1 .0) (sym (c .before .before .before .t .given .1) ∙ c .before .before .before .before .before .admit-as-locked .ensures (c .before .before .before .before .before .before .before .before .before .before .before .args .breaker .config) (state (c .before .before .before .before .before .before .before .before .before .before .before .args .breaker) (c .before .before .before .before .before .before .before .before .before .before .before .args .list .now)) (holds (c .before .before .before .before .before .before .before .before .before .before .before .args .breaker) (c .before .before .before .before .before .before .before .before .before .before .before .args .list .now) (tested (c .before .before .before .before .before .before)) .0)) (λ st′. ap (λ (i : Decision). Calls.handedOn (Calls.isAcquired i) (tell 0 (decisionValues (c .before .before .before .before .before .before .before .before .before .before .before .args .inner))) (c .before .before .before .before .before .before .before .before .before .before .before .args .now-ms) (settings (c .before .before .before .before .before .before .before .before .before .before .before .args .breaker .config)) (c .before .before .before .t .given .0 .0) st′) (c .enum-told2 .given .1)) ∙ sound-done (Calls.acquireCost (c .before .before .before .before .before .before .before .before .before .before .before .args .inner) (c .before .before .before .before .before .before .before .before .before .before .before .args .now-ms)) (c .before .before .before .before .before .before .before .before .before .before .before .args .breaker) (c .before .before .before .before .before .before .before .before .before .before .before .args .list .now) (tested (c .before .before .before .before .before .before))
+returns-3 c = handed-on (c .before .before .before .before .before .before .before .before .before .before .before .args .now-ms) (c .before .before .before .before .before .before .before .before .before .before .before .args .breaker) (c .before .before .before .before .before .before .before .before .before .before .before .args .list .now) (tested (c .before .before .before .before .before .before)) (λ a. Calls.acquireInner (c .before .before .before .before .before .before .before .before .before .before .before .args .inner) a (state (c .before .before .before .before .before .before .before .before .before .before .before .args .breaker) (c .before .before .before .before .before .before .before .before .before .before .before .args .list .now))) (tell 0 (decisionValues (c .before .before .before .before .before .before .before .before .before .before .before .args .inner))) (c .before .before .before .t .given .0 .0) (c .before .before .before .t .given .0 .1 .0) (sym (c .before .before .before .t .given .1) ∙ c .before .before .before .before .before .admit-as-locked .ensures (c .before .before .before .before .before .before .before .before .before .before .before .args .breaker .config) (state (c .before .before .before .before .before .before .before .before .before .before .before .args .breaker) (c .before .before .before .before .before .before .before .before .before .before .before .args .list .now)) (holds (c .before .before .before .before .before .before .before .before .before .before .before .args .breaker) (c .before .before .before .before .before .before .before .before .before .before .before .args .list .now) (tested (c .before .before .before .before .before .before)) .0)) (λ st′. ap (λ (i : Decision). Calls.handedOn (isAcquired i) (tell 0 (decisionValues (c .before .before .before .before .before .before .before .before .before .before .before .args .inner))) (c .before .before .before .t .given .0 .0) st′) (c .enum-told2 .given .1)) ∙ sound-done (Calls.acquireCost (c .before .before .before .before .before .before .before .before .before .before .before .args .inner) (c .before .before .before .before .before .before .before .before .before .before .before .args .now-ms)) (c .before .before .before .before .before .before .before .before .before .before .before .args .breaker) (c .before .before .before .before .before .before .before .before .before .before .before .args .list .now) (tested (c .before .before .before .before .before .before))
 
 same-length-4 : tie.Need-same-length-4
 same-length-4 c = search needs
 
 returns-4 : tie.Need-returns-4
 returns-4 c =
-    handed-back (c .before .before .before .before .before .before .before .before .before .before .before .before .args .now-ms) (c .before .before .before .before .before .before .before .before .before .before .before .before .args .breaker) (c .before .before .before .before .before .before .before .before .before .before .before .before .args .list .now) (tested (c .before .before .before .before .before .before .before)) (λ a. Calls.acquireInner (c .before .before .before .before .before .before .before .before .before .before .before .before .args .inner) (c .before .before .before .before .before .before .before .before .before .before .before .before .args .now-ms) (settings (c .before .before .before .before .before .before .before .before .before .before .before .before .args .breaker .config)) a (state (c .before .before .before .before .before .before .before .before .before .before .before .before .args .breaker) (c .before .before .before .before .before .before .before .before .before .before .before .before .args .list .now))) (tell 0 (decisionValues (c .before .before .before .before .before .before .before .before .before .before .before .before .args .inner))) (c .before .before .before .before .t .given .0 .0) (c .before .before .before .before .t .given .0 .1 .0) (sym (c .before .before .before .before .t .given .1) ∙ c .before .before .before .before .before .before .admit-as-locked .ensures (c .before .before .before .before .before .before .before .before .before .before .before .before .args .breaker .config) (state (c .before .before .before .before .before .before .before .before .before .before .before .before .args .breaker) (c .before .before .before .before .before .before .before .before .before .before .before .before .args .list .now)) (holds (c .before .before .before .before .before .before .before .before .before .before .before .before .args .breaker) (c .before .before .before .before .before .before .before .before .before .before .before .before .args .list .now) (tested (c .before .before .before .before .before .before .before)) .0)) (c .abort-locked .result) (λ st′ q. c .abort-locked .ensures (c .before .before .before .before .before .before .before .before .before .before .before .before .args .breaker .config) st′ (c .before .before .before .before .before .before .before .before .before .before .before .before .args .now-ms) q)
-    (λ st′. ap (λ (i : Decision). Calls.handedOn (Calls.isAcquired i) (tell 0 (decisionValues (c .before .before .before .before .before .before .before .before .before .before .before .before .args .inner))) (c .before .before .before .before .before .before .before .before .before .before .before .before .args .now-ms) (settings (c .before .before .before .before .before .before .before .before .before .before .before .before .args .breaker .config)) (c .before .before .before .before .t .given .0 .0) st′) (c .before .enum-told3 .given .1))
+    handed-back (c .before .before .before .before .before .before .before .before .before .before .before .before .args .now-ms) (c .before .before .before .before .before .before .before .before .before .before .before .before .args .breaker) (c .before .before .before .before .before .before .before .before .before .before .before .before .args .list .now) (tested (c .before .before .before .before .before .before .before)) (λ a. Calls.acquireInner (c .before .before .before .before .before .before .before .before .before .before .before .before .args .inner) a (state (c .before .before .before .before .before .before .before .before .before .before .before .before .args .breaker) (c .before .before .before .before .before .before .before .before .before .before .before .before .args .list .now))) (tell 0 (decisionValues (c .before .before .before .before .before .before .before .before .before .before .before .before .args .inner))) (c .before .before .before .before .t .given .0 .0) (c .before .before .before .before .t .given .0 .1 .0) (sym (c .before .before .before .before .t .given .1) ∙ c .before .before .before .before .before .before .admit-as-locked .ensures (c .before .before .before .before .before .before .before .before .before .before .before .before .args .breaker .config) (state (c .before .before .before .before .before .before .before .before .before .before .before .before .args .breaker) (c .before .before .before .before .before .before .before .before .before .before .before .before .args .list .now)) (holds (c .before .before .before .before .before .before .before .before .before .before .before .before .args .breaker) (c .before .before .before .before .before .before .before .before .before .before .before .before .args .list .now) (tested (c .before .before .before .before .before .before .before)) .0)) (c .abort-locked .result) (λ st′ q. c .abort-locked .ensures (c .before .before .before .before .before .before .before .before .before .before .before .before .args .breaker .config) st′ q)
+    (λ st′. ap (λ (i : Decision). Calls.handedOn (isAcquired i) (tell 0 (decisionValues (c .before .before .before .before .before .before .before .before .before .before .before .before .args .inner))) (c .before .before .before .before .t .given .0 .0) st′) (c .before .enum-told3 .given .1))
     ∙ sound-done (Calls.acquireCost (c .before .before .before .before .before .before .before .before .before .before .before .before .args .inner) (c .before .before .before .before .before .before .before .before .before .before .before .before .args .now-ms)) (c .before .before .before .before .before .before .before .before .before .before .before .before .args .breaker) (c .before .before .before .before .before .before .before .before .before .before .before .before .args .list .now) (tested (c .before .before .before .before .before .before .before))
 
 same-length-5 : tie.Need-same-length-5
@@ -86,8 +85,8 @@ same-length-5 c = search needs
 
 returns-5 : tie.Need-returns-5
 returns-5 c =
-    handed-back (c .before .before .before .before .before .before .before .before .before .before .before .before .args .now-ms) (c .before .before .before .before .before .before .before .before .before .before .before .before .args .breaker) (c .before .before .before .before .before .before .before .before .before .before .before .before .args .list .now) (tested (c .before .before .before .before .before .before .before)) (λ a. Calls.acquireInner (c .before .before .before .before .before .before .before .before .before .before .before .before .args .inner) (c .before .before .before .before .before .before .before .before .before .before .before .before .args .now-ms) (settings (c .before .before .before .before .before .before .before .before .before .before .before .before .args .breaker .config)) a (state (c .before .before .before .before .before .before .before .before .before .before .before .before .args .breaker) (c .before .before .before .before .before .before .before .before .before .before .before .before .args .list .now))) (tell 0 (decisionValues (c .before .before .before .before .before .before .before .before .before .before .before .before .args .inner))) (c .before .before .before .before .t .given .0 .0) (c .before .before .before .before .t .given .0 .1 .0) (sym (c .before .before .before .before .t .given .1) ∙ c .before .before .before .before .before .before .admit-as-locked .ensures (c .before .before .before .before .before .before .before .before .before .before .before .before .args .breaker .config) (state (c .before .before .before .before .before .before .before .before .before .before .before .before .args .breaker) (c .before .before .before .before .before .before .before .before .before .before .before .before .args .list .now)) (holds (c .before .before .before .before .before .before .before .before .before .before .before .before .args .breaker) (c .before .before .before .before .before .before .before .before .before .before .before .before .args .list .now) (tested (c .before .before .before .before .before .before .before)) .0)) (c .abort-locked2 .result) (λ st′ q. c .abort-locked2 .ensures (c .before .before .before .before .before .before .before .before .before .before .before .before .args .breaker .config) st′ (c .before .before .before .before .before .before .before .before .before .before .before .before .args .now-ms) q)
-    (λ st′. ap (λ (i : Decision). Calls.handedOn (Calls.isAcquired i) (tell 0 (decisionValues (c .before .before .before .before .before .before .before .before .before .before .before .before .args .inner))) (c .before .before .before .before .before .before .before .before .before .before .before .before .args .now-ms) (settings (c .before .before .before .before .before .before .before .before .before .before .before .before .args .breaker .config)) (c .before .before .before .before .t .given .0 .0) st′) (c .before .enum-told4 .given .1))
+    handed-back (c .before .before .before .before .before .before .before .before .before .before .before .before .args .now-ms) (c .before .before .before .before .before .before .before .before .before .before .before .before .args .breaker) (c .before .before .before .before .before .before .before .before .before .before .before .before .args .list .now) (tested (c .before .before .before .before .before .before .before)) (λ a. Calls.acquireInner (c .before .before .before .before .before .before .before .before .before .before .before .before .args .inner) a (state (c .before .before .before .before .before .before .before .before .before .before .before .before .args .breaker) (c .before .before .before .before .before .before .before .before .before .before .before .before .args .list .now))) (tell 0 (decisionValues (c .before .before .before .before .before .before .before .before .before .before .before .before .args .inner))) (c .before .before .before .before .t .given .0 .0) (c .before .before .before .before .t .given .0 .1 .0) (sym (c .before .before .before .before .t .given .1) ∙ c .before .before .before .before .before .before .admit-as-locked .ensures (c .before .before .before .before .before .before .before .before .before .before .before .before .args .breaker .config) (state (c .before .before .before .before .before .before .before .before .before .before .before .before .args .breaker) (c .before .before .before .before .before .before .before .before .before .before .before .before .args .list .now)) (holds (c .before .before .before .before .before .before .before .before .before .before .before .before .args .breaker) (c .before .before .before .before .before .before .before .before .before .before .before .before .args .list .now) (tested (c .before .before .before .before .before .before .before)) .0)) (c .abort-locked2 .result) (λ st′ q. c .abort-locked2 .ensures (c .before .before .before .before .before .before .before .before .before .before .before .before .args .breaker .config) st′ q)
+    (λ st′. ap (λ (i : Decision). Calls.handedOn (isAcquired i) (tell 0 (decisionValues (c .before .before .before .before .before .before .before .before .before .before .before .before .args .inner))) (c .before .before .before .before .t .given .0 .0) st′) (c .before .enum-told4 .given .1))
     ∙ sound-done (Calls.acquireCost (c .before .before .before .before .before .before .before .before .before .before .before .before .args .inner) (c .before .before .before .before .before .before .before .before .before .before .before .before .args .now-ms)) (c .before .before .before .before .before .before .before .before .before .before .before .before .args .breaker) (c .before .before .before .before .before .before .before .before .before .before .before .before .args .list .now) (tested (c .before .before .before .before .before .before .before))
 
 pub acquire-cost-spec : {M : Type 1} → statement M

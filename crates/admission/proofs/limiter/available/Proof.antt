@@ -4,6 +4,7 @@ use mathlib.Core.Bool.{true}
 use borrow.Author.Needs.{needs}
 use Rattle.error.specs.Choice.{if_then_else_}
 use Rattle.breaker.specs.Record.{state, sound}
+use Rattle.breaker.specs.Answers.{isAcquired}
 use Rattle.breaker.specs.Calls as Calls
 use Rattle.breaker.specs.declared.Decision.{Decision}
 use Rattle.admission.proofs.Admitting.{counted-shed, counted-granted}
@@ -49,13 +50,13 @@ returns-2 : tie.Need-returns-2
 returns-2 c = counted-shed (c .before .before .before .before .before .before .before .args .now-ms) (c .before .before .before .before .before .before .before .args .breaker) (c .before .before .before .before .before .before .before .args .list .now) (tested (c .before .before .before)) (c .before .before .before .before .before .before .before .args .inner) (c .before .before .before .before .before .before .before .args .count) (c .enum-told2 .given .0 .0) (sym (c .enum-told2 .given .1) ∙ c .before .before .admit-locked .ensures (c .before .before .before .before .before .before .before .args .breaker .config) (state (c .before .before .before .before .before .before .before .args .breaker) (c .before .before .before .before .before .before .before .args .list .now)) (holds (c .before .before .before .before .before .before .before .args .breaker) (c .before .before .before .before .before .before .before .args .list .now) (tested (c .before .before .before)) .0)) ∙ asked-done (Calls.available (c .before .before .before .before .before .before .before .args .inner) (c .before .before .before .before .before .before .before .args .count) (c .before .before .before .before .before .before .before .args .now-ms)) (c .before .before .before .before .before .before .before .args .breaker) (c .before .before .before .before .before .before .before .args .list .now) (tested (c .before .before .before))
 
 returns-3 : tie.Need-returns-3
-returns-3 c = counted-granted (c .before .before .before .before .before .before .before .before .before .args .now-ms) (c .before .before .before .before .before .before .before .before .before .args .breaker) (c .before .before .before .before .before .before .before .before .before .args .list .now) (tested (c .before .before .before .before .before)) (c .before .before .before .before .before .before .before .before .before .args .inner) (c .before .before .before .before .before .before .before .before .before .args .count) (c .before .before .before .before .before .before .before .before .before .args .count) (c .before .before .enum-told3 .given .0 .0) (c .before .before .enum-told3 .given .0 .1 .0) (sym (c .before .before .enum-told3 .given .1) ∙ c .before .before .before .before .admit-locked .ensures (c .before .before .before .before .before .before .before .before .before .args .breaker .config) (state (c .before .before .before .before .before .before .before .before .before .args .breaker) (c .before .before .before .before .before .before .before .before .before .args .list .now)) (holds (c .before .before .before .before .before .before .before .before .before .args .breaker) (c .before .before .before .before .before .before .before .before .before .args .list .now) (tested (c .before .before .before .before .before)) .0)) (ap (λ (i : Decision). if Calls.isAcquired i then (c .before .before .before .before .before .before .before .before .before .args .count) else 0) (c .enum-told4 .given .1)) ∙ asked-done (Calls.available (c .before .before .before .before .before .before .before .before .before .args .inner) (c .before .before .before .before .before .before .before .before .before .args .count) (c .before .before .before .before .before .before .before .before .before .args .now-ms)) (c .before .before .before .before .before .before .before .before .before .args .breaker) (c .before .before .before .before .before .before .before .before .before .args .list .now) (tested (c .before .before .before .before .before))
+returns-3 c = counted-granted (c .before .before .before .before .before .before .before .before .before .args .now-ms) (c .before .before .before .before .before .before .before .before .before .args .breaker) (c .before .before .before .before .before .before .before .before .before .args .list .now) (tested (c .before .before .before .before .before)) (c .before .before .before .before .before .before .before .before .before .args .inner) (c .before .before .before .before .before .before .before .before .before .args .count) (c .before .before .before .before .before .before .before .before .before .args .count) (c .before .before .enum-told3 .given .0 .0) (c .before .before .enum-told3 .given .0 .1 .0) (sym (c .before .before .enum-told3 .given .1) ∙ c .before .before .before .before .admit-locked .ensures (c .before .before .before .before .before .before .before .before .before .args .breaker .config) (state (c .before .before .before .before .before .before .before .before .before .args .breaker) (c .before .before .before .before .before .before .before .before .before .args .list .now)) (holds (c .before .before .before .before .before .before .before .before .before .args .breaker) (c .before .before .before .before .before .before .before .before .before .args .list .now) (tested (c .before .before .before .before .before)) .0)) (ap (λ (i : Decision). if isAcquired i then (c .before .before .before .before .before .before .before .before .before .args .count) else 0) (c .enum-told4 .given .1)) ∙ asked-done (Calls.available (c .before .before .before .before .before .before .before .before .before .args .inner) (c .before .before .before .before .before .before .before .before .before .args .count) (c .before .before .before .before .before .before .before .before .before .args .now-ms)) (c .before .before .before .before .before .before .before .before .before .args .breaker) (c .before .before .before .before .before .before .before .before .before .args .list .now) (tested (c .before .before .before .before .before))
 
 returns-4 : tie.Need-returns-4
-returns-4 c = counted-granted (c .before .before .before .before .before .before .before .before .before .args .now-ms) (c .before .before .before .before .before .before .before .before .before .args .breaker) (c .before .before .before .before .before .before .before .before .before .args .list .now) (tested (c .before .before .before .before .before)) (c .before .before .before .before .before .before .before .before .before .args .inner) (c .before .before .before .before .before .before .before .before .before .args .count) 0 (c .before .before .enum-told3 .given .0 .0) (c .before .before .enum-told3 .given .0 .1 .0) (sym (c .before .before .enum-told3 .given .1) ∙ c .before .before .before .before .admit-locked .ensures (c .before .before .before .before .before .before .before .before .before .args .breaker .config) (state (c .before .before .before .before .before .before .before .before .before .args .breaker) (c .before .before .before .before .before .before .before .before .before .args .list .now)) (holds (c .before .before .before .before .before .before .before .before .before .args .breaker) (c .before .before .before .before .before .before .before .before .before .args .list .now) (tested (c .before .before .before .before .before)) .0)) (ap (λ (i : Decision). if Calls.isAcquired i then (c .before .before .before .before .before .before .before .before .before .args .count) else 0) (c .enum-told5 .given .1)) ∙ asked-done (Calls.available (c .before .before .before .before .before .before .before .before .before .args .inner) (c .before .before .before .before .before .before .before .before .before .args .count) (c .before .before .before .before .before .before .before .before .before .args .now-ms)) (c .before .before .before .before .before .before .before .before .before .args .breaker) (c .before .before .before .before .before .before .before .before .before .args .list .now) (tested (c .before .before .before .before .before))
+returns-4 c = counted-granted (c .before .before .before .before .before .before .before .before .before .args .now-ms) (c .before .before .before .before .before .before .before .before .before .args .breaker) (c .before .before .before .before .before .before .before .before .before .args .list .now) (tested (c .before .before .before .before .before)) (c .before .before .before .before .before .before .before .before .before .args .inner) (c .before .before .before .before .before .before .before .before .before .args .count) 0 (c .before .before .enum-told3 .given .0 .0) (c .before .before .enum-told3 .given .0 .1 .0) (sym (c .before .before .enum-told3 .given .1) ∙ c .before .before .before .before .admit-locked .ensures (c .before .before .before .before .before .before .before .before .before .args .breaker .config) (state (c .before .before .before .before .before .before .before .before .before .args .breaker) (c .before .before .before .before .before .before .before .before .before .args .list .now)) (holds (c .before .before .before .before .before .before .before .before .before .args .breaker) (c .before .before .before .before .before .before .before .before .before .args .list .now) (tested (c .before .before .before .before .before)) .0)) (ap (λ (i : Decision). if isAcquired i then (c .before .before .before .before .before .before .before .before .before .args .count) else 0) (c .enum-told5 .given .1)) ∙ asked-done (Calls.available (c .before .before .before .before .before .before .before .before .before .args .inner) (c .before .before .before .before .before .before .before .before .before .args .count) (c .before .before .before .before .before .before .before .before .before .args .now-ms)) (c .before .before .before .before .before .before .before .before .before .args .breaker) (c .before .before .before .before .before .before .before .before .before .args .list .now) (tested (c .before .before .before .before .before))
 
 returns-5 : tie.Need-returns-5
-returns-5 c = counted-granted (c .before .before .before .before .before .before .before .before .before .args .now-ms) (c .before .before .before .before .before .before .before .before .before .args .breaker) (c .before .before .before .before .before .before .before .before .before .args .list .now) (tested (c .before .before .before .before .before)) (c .before .before .before .before .before .before .before .before .before .args .inner) (c .before .before .before .before .before .before .before .before .before .args .count) 0 (c .before .before .enum-told3 .given .0 .0) (c .before .before .enum-told3 .given .0 .1 .0) (sym (c .before .before .enum-told3 .given .1) ∙ c .before .before .before .before .admit-locked .ensures (c .before .before .before .before .before .before .before .before .before .args .breaker .config) (state (c .before .before .before .before .before .before .before .before .before .args .breaker) (c .before .before .before .before .before .before .before .before .before .args .list .now)) (holds (c .before .before .before .before .before .before .before .before .before .args .breaker) (c .before .before .before .before .before .before .before .before .before .args .list .now) (tested (c .before .before .before .before .before)) .0)) (ap (λ (i : Decision). if Calls.isAcquired i then (c .before .before .before .before .before .before .before .before .before .args .count) else 0) (c .enum-told6 .given .1)) ∙ asked-done (Calls.available (c .before .before .before .before .before .before .before .before .before .args .inner) (c .before .before .before .before .before .before .before .before .before .args .count) (c .before .before .before .before .before .before .before .before .before .args .now-ms)) (c .before .before .before .before .before .before .before .before .before .args .breaker) (c .before .before .before .before .before .before .before .before .before .args .list .now) (tested (c .before .before .before .before .before))
+returns-5 c = counted-granted (c .before .before .before .before .before .before .before .before .before .args .now-ms) (c .before .before .before .before .before .before .before .before .before .args .breaker) (c .before .before .before .before .before .before .before .before .before .args .list .now) (tested (c .before .before .before .before .before)) (c .before .before .before .before .before .before .before .before .before .args .inner) (c .before .before .before .before .before .before .before .before .before .args .count) 0 (c .before .before .enum-told3 .given .0 .0) (c .before .before .enum-told3 .given .0 .1 .0) (sym (c .before .before .enum-told3 .given .1) ∙ c .before .before .before .before .admit-locked .ensures (c .before .before .before .before .before .before .before .before .before .args .breaker .config) (state (c .before .before .before .before .before .before .before .before .before .args .breaker) (c .before .before .before .before .before .before .before .before .before .args .list .now)) (holds (c .before .before .before .before .before .before .before .before .before .args .breaker) (c .before .before .before .before .before .before .before .before .before .args .list .now) (tested (c .before .before .before .before .before)) .0)) (ap (λ (i : Decision). if isAcquired i then (c .before .before .before .before .before .before .before .before .before .args .count) else 0) (c .enum-told6 .given .1)) ∙ asked-done (Calls.available (c .before .before .before .before .before .before .before .before .before .args .inner) (c .before .before .before .before .before .before .before .before .before .args .count) (c .before .before .before .before .before .before .before .before .before .args .now-ms)) (c .before .before .before .before .before .before .before .before .before .args .breaker) (c .before .before .before .before .before .before .before .before .before .args .list .now) (tested (c .before .before .before .before .before))
 
 pub available-spec : {M : Type 1} → statement M
 available-spec =

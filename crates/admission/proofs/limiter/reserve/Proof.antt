@@ -7,7 +7,6 @@ use Rattle.breaker.specs.Calls as Calls
 use Rattle.error.specs.Told.{tell}
 use Rattle.breaker.specs.declared.Reservation.{Reservation}
 use Rattle.breaker.specs.declared.Reservation.the-variants.{Nothing}
-use Rattle.breaker.specs.Record.{settings}
 use Rattle.breaker.specs.Answers.{reservationValues}
 use Rattle.admission.proofs.Admitting.{handed-shed, handed-on, handed-back}
 use Rattle.breaker.proofs.Guard.{tested-sound, sound-refused, sound-done}
@@ -56,22 +55,22 @@ same-length-2 c = search needs
 
 returns-2 : tie.Need-returns-2
 returns-2 c =
-    handed-shed (c .before .before .before .before .before .before .before .before .args .now-ms) (c .before .before .before .before .before .before .before .before .args .breaker) (c .before .before .before .before .before .before .before .before .args .list .now) (tested (c .before .before .before)) (λ a. Calls.reserveInner (c .before .before .before .before .before .before .before .before .args .inner) (c .before .before .before .before .before .before .before .before .args .now-ms) (settings (c .before .before .before .before .before .before .before .before .args .breaker .config)) a (state (c .before .before .before .before .before .before .before .before .args .breaker) (c .before .before .before .before .before .before .before .before .args .list .now))) (tell 0 (reservationValues Nothing)) (λ ms. tell 0 (reservationValues Nothing)) (λ ms. refl) (c .enum-told2 .given .0 .0) (sym (c .enum-told2 .given .1) ∙ c .before .before .admit-as-locked .ensures (c .before .before .before .before .before .before .before .before .args .breaker .config) (state (c .before .before .before .before .before .before .before .before .args .breaker) (c .before .before .before .before .before .before .before .before .args .list .now)) (holds (c .before .before .before .before .before .before .before .before .args .breaker) (c .before .before .before .before .before .before .before .before .args .list .now) (tested (c .before .before .before)) .0)) (λ ms r. refl)
+    handed-shed (c .before .before .before .before .before .before .before .before .args .now-ms) (c .before .before .before .before .before .before .before .before .args .breaker) (c .before .before .before .before .before .before .before .before .args .list .now) (tested (c .before .before .before)) (λ a. Calls.reserveInner (c .before .before .before .before .before .before .before .before .args .inner) a (state (c .before .before .before .before .before .before .before .before .args .breaker) (c .before .before .before .before .before .before .before .before .args .list .now))) (tell 0 (reservationValues Nothing)) (λ ms. tell 0 (reservationValues Nothing)) (λ ms. refl) (c .enum-told2 .given .0 .0) (sym (c .enum-told2 .given .1) ∙ c .before .before .admit-as-locked .ensures (c .before .before .before .before .before .before .before .before .args .breaker .config) (state (c .before .before .before .before .before .before .before .before .args .breaker) (c .before .before .before .before .before .before .before .before .args .list .now)) (holds (c .before .before .before .before .before .before .before .before .args .breaker) (c .before .before .before .before .before .before .before .before .args .list .now) (tested (c .before .before .before)) .0)) (λ ms r. refl)
     ∙ sound-done (Calls.reserve (c .before .before .before .before .before .before .before .before .args .inner) (c .before .before .before .before .before .before .before .before .args .now-ms)) (c .before .before .before .before .before .before .before .before .args .breaker) (c .before .before .before .before .before .before .before .before .args .list .now) (tested (c .before .before .before))
 
 same-length-3 : tie.Need-same-length-3
 same-length-3 c = search needs
 
 returns-3 : tie.Need-returns-3
-returns-3 c = handed-on (c .before .before .before .before .before .before .before .before .before .before .before .args .now-ms) (c .before .before .before .before .before .before .before .before .before .before .before .args .breaker) (c .before .before .before .before .before .before .before .before .before .before .before .args .list .now) (tested (c .before .before .before .before .before .before)) (λ a. Calls.reserveInner (c .before .before .before .before .before .before .before .before .before .before .before .args .inner) (c .before .before .before .before .before .before .before .before .before .before .before .args .now-ms) (settings (c .before .before .before .before .before .before .before .before .before .before .before .args .breaker .config)) a (state (c .before .before .before .before .before .before .before .before .before .before .before .args .breaker) (c .before .before .before .before .before .before .before .before .before .before .before .args .list .now))) (tell 0 (reservationValues (c .before .before .before .before .before .before .before .before .before .before .before .args .inner))) (c .before .before .before .t .given .0 .0) (c .before .before .before .t .given .0 .1 .0) (sym (c .before .before .before .t .given .1) ∙ c .before .before .before .before .before .admit-as-locked .ensures (c .before .before .before .before .before .before .before .before .before .before .before .args .breaker .config) (state (c .before .before .before .before .before .before .before .before .before .before .before .args .breaker) (c .before .before .before .before .before .before .before .before .before .before .before .args .list .now)) (holds (c .before .before .before .before .before .before .before .before .before .before .before .args .breaker) (c .before .before .before .before .before .before .before .before .before .before .before .args .list .now) (tested (c .before .before .before .before .before .before)) .0)) (λ st′. ap (λ (i : Reservation). Calls.handedOn (Calls.isReserved i) (tell 0 (reservationValues (c .before .before .before .before .before .before .before .before .before .before .before .args .inner))) (c .before .before .before .before .before .before .before .before .before .before .before .args .now-ms) (settings (c .before .before .before .before .before .before .before .before .before .before .before .args .breaker .config)) (c .before .before .before .t .given .0 .0) st′) (c .enum-told3 .given .1)) ∙ sound-done (Calls.reserve (c .before .before .before .before .before .before .before .before .before .before .before .args .inner) (c .before .before .before .before .before .before .before .before .before .before .before .args .now-ms)) (c .before .before .before .before .before .before .before .before .before .before .before .args .breaker) (c .before .before .before .before .before .before .before .before .before .before .before .args .list .now) (tested (c .before .before .before .before .before .before))
+returns-3 c = handed-on (c .before .before .before .before .before .before .before .before .before .before .before .args .now-ms) (c .before .before .before .before .before .before .before .before .before .before .before .args .breaker) (c .before .before .before .before .before .before .before .before .before .before .before .args .list .now) (tested (c .before .before .before .before .before .before)) (λ a. Calls.reserveInner (c .before .before .before .before .before .before .before .before .before .before .before .args .inner) a (state (c .before .before .before .before .before .before .before .before .before .before .before .args .breaker) (c .before .before .before .before .before .before .before .before .before .before .before .args .list .now))) (tell 0 (reservationValues (c .before .before .before .before .before .before .before .before .before .before .before .args .inner))) (c .before .before .before .t .given .0 .0) (c .before .before .before .t .given .0 .1 .0) (sym (c .before .before .before .t .given .1) ∙ c .before .before .before .before .before .admit-as-locked .ensures (c .before .before .before .before .before .before .before .before .before .before .before .args .breaker .config) (state (c .before .before .before .before .before .before .before .before .before .before .before .args .breaker) (c .before .before .before .before .before .before .before .before .before .before .before .args .list .now)) (holds (c .before .before .before .before .before .before .before .before .before .before .before .args .breaker) (c .before .before .before .before .before .before .before .before .before .before .before .args .list .now) (tested (c .before .before .before .before .before .before)) .0)) (λ st′. ap (λ (i : Reservation). Calls.handedOn (Calls.isReserved i) (tell 0 (reservationValues (c .before .before .before .before .before .before .before .before .before .before .before .args .inner))) (c .before .before .before .t .given .0 .0) st′) (c .enum-told3 .given .1)) ∙ sound-done (Calls.reserve (c .before .before .before .before .before .before .before .before .before .before .before .args .inner) (c .before .before .before .before .before .before .before .before .before .before .before .args .now-ms)) (c .before .before .before .before .before .before .before .before .before .before .before .args .breaker) (c .before .before .before .before .before .before .before .before .before .before .before .args .list .now) (tested (c .before .before .before .before .before .before))
 
 same-length-4 : tie.Need-same-length-4
 same-length-4 c = search needs
 
 returns-4 : tie.Need-returns-4
 returns-4 c =
-    handed-back (c .before .before .before .before .before .before .before .before .before .before .before .before .args .now-ms) (c .before .before .before .before .before .before .before .before .before .before .before .before .args .breaker) (c .before .before .before .before .before .before .before .before .before .before .before .before .args .list .now) (tested (c .before .before .before .before .before .before .before)) (λ a. Calls.reserveInner (c .before .before .before .before .before .before .before .before .before .before .before .before .args .inner) (c .before .before .before .before .before .before .before .before .before .before .before .before .args .now-ms) (settings (c .before .before .before .before .before .before .before .before .before .before .before .before .args .breaker .config)) a (state (c .before .before .before .before .before .before .before .before .before .before .before .before .args .breaker) (c .before .before .before .before .before .before .before .before .before .before .before .before .args .list .now))) (tell 0 (reservationValues (c .before .before .before .before .before .before .before .before .before .before .before .before .args .inner))) (c .before .before .before .before .t .given .0 .0) (c .before .before .before .before .t .given .0 .1 .0) (sym (c .before .before .before .before .t .given .1) ∙ c .before .before .before .before .before .before .admit-as-locked .ensures (c .before .before .before .before .before .before .before .before .before .before .before .before .args .breaker .config) (state (c .before .before .before .before .before .before .before .before .before .before .before .before .args .breaker) (c .before .before .before .before .before .before .before .before .before .before .before .before .args .list .now)) (holds (c .before .before .before .before .before .before .before .before .before .before .before .before .args .breaker) (c .before .before .before .before .before .before .before .before .before .before .before .before .args .list .now) (tested (c .before .before .before .before .before .before .before)) .0)) (c .abort-locked .result) (λ st′ q. c .abort-locked .ensures (c .before .before .before .before .before .before .before .before .before .before .before .before .args .breaker .config) st′ (c .before .before .before .before .before .before .before .before .before .before .before .before .args .now-ms) q)
-    (λ st′. ap (λ (i : Reservation). Calls.handedOn (Calls.isReserved i) (tell 0 (reservationValues (c .before .before .before .before .before .before .before .before .before .before .before .before .args .inner))) (c .before .before .before .before .before .before .before .before .before .before .before .before .args .now-ms) (settings (c .before .before .before .before .before .before .before .before .before .before .before .before .args .breaker .config)) (c .before .before .before .before .t .given .0 .0) st′) (c .before .enum-told4 .given .1))
+    handed-back (c .before .before .before .before .before .before .before .before .before .before .before .before .args .now-ms) (c .before .before .before .before .before .before .before .before .before .before .before .before .args .breaker) (c .before .before .before .before .before .before .before .before .before .before .before .before .args .list .now) (tested (c .before .before .before .before .before .before .before)) (λ a. Calls.reserveInner (c .before .before .before .before .before .before .before .before .before .before .before .before .args .inner) a (state (c .before .before .before .before .before .before .before .before .before .before .before .before .args .breaker) (c .before .before .before .before .before .before .before .before .before .before .before .before .args .list .now))) (tell 0 (reservationValues (c .before .before .before .before .before .before .before .before .before .before .before .before .args .inner))) (c .before .before .before .before .t .given .0 .0) (c .before .before .before .before .t .given .0 .1 .0) (sym (c .before .before .before .before .t .given .1) ∙ c .before .before .before .before .before .before .admit-as-locked .ensures (c .before .before .before .before .before .before .before .before .before .before .before .before .args .breaker .config) (state (c .before .before .before .before .before .before .before .before .before .before .before .before .args .breaker) (c .before .before .before .before .before .before .before .before .before .before .before .before .args .list .now)) (holds (c .before .before .before .before .before .before .before .before .before .before .before .before .args .breaker) (c .before .before .before .before .before .before .before .before .before .before .before .before .args .list .now) (tested (c .before .before .before .before .before .before .before)) .0)) (c .abort-locked .result) (λ st′ q. c .abort-locked .ensures (c .before .before .before .before .before .before .before .before .before .before .before .before .args .breaker .config) st′ q)
+    (λ st′. ap (λ (i : Reservation). Calls.handedOn (Calls.isReserved i) (tell 0 (reservationValues (c .before .before .before .before .before .before .before .before .before .before .before .before .args .inner))) (c .before .before .before .before .t .given .0 .0) st′) (c .before .enum-told4 .given .1))
     ∙ sound-done (Calls.reserve (c .before .before .before .before .before .before .before .before .before .before .before .before .args .inner) (c .before .before .before .before .before .before .before .before .before .before .before .before .args .now-ms)) (c .before .before .before .before .before .before .before .before .before .before .before .before .args .breaker) (c .before .before .before .before .before .before .before .before .before .before .before .before .args .list .now) (tested (c .before .before .before .before .before .before .before))
 
 pub reserve-spec : {M : Type 1} → statement M

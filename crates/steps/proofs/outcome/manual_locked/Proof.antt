@@ -1,7 +1,11 @@
--- `steps::outcome::manual_locked` meets its contract: a settle, with a trait probe used up where there is one. Assumes nothing.
-use mathlib.Core.Path.{_∙_}
+-- `steps::outcome::manual_locked` meets its contract: a settle, with a trait probe used up or not. Assumes nothing.
+use Prim.Native.Nat.{ℕ, _-_}
+use mathlib.Core.Path.{_≡_, sym, ap, ap₂, _∙_}
+use native.Mathlib.Nat.{sub-zero, add-zero}
 use borrow.Author.Needs.{needs}
-use Rattle.steps.proofs.Settling.{manual-off, manual-none, manual-one, used, used-sound}
+use Rattle.breaker.specs.declared.Counts.{Counts}
+use Rattle.breaker.specs.Rules.{lessCounts, withCounts}
+use Rattle.steps.proofs.Settling.{manual-off, manual-none, manual-one, used-sound}
 use Rattle.steps.proofs.outcome.manual_locked.Statement.{statement}
 use Rattle.steps.proofs.outcome.manual_locked.Tie as tie
 
@@ -12,7 +16,10 @@ same-length : tie.Need-same-length
 same-length c = search needs
 
 returns : tie.Need-returns
-returns c = λ ok cfg st h. c .before .before .settle-locked .ensures ok cfg st h ∙ manual-off (c .before .before .before .before .before .before .before .before .args .b) (c .before .before .before .before .before .before .before .before .args .list .now) cfg st (c .before .before .before .before .before .before .before .before .args .now-ms) (c .before .before .before .before .before .before .before .before .args .success) h (c .before .before .before .before .if1 .taken)
+returns c =
+    let at-if1 = c .before .before .before .before in
+    let start = at-if1 .before .before .before in
+    λ ok cfg st h. c .before .before .settle-locked .ensures ok cfg st h ∙ manual-off (start .args .b) (start .args .list .now) cfg st (start .args .now-ms) (start .args .success) h (at-if1 .if1 .taken)
 
 settle-locked-requires-2 : tie.Need-settle-locked-requires-2
 settle-locked-requires-2 c κs = search needs
@@ -21,10 +28,14 @@ same-length-2 : tie.Need-same-length-2
 same-length-2 c = search needs
 
 returns-2 : tie.Need-returns-2
-returns-2 c = λ ok cfg st h. c .before .before .settle-locked2 .ensures ok cfg st h ∙ manual-none (c .before .before .before .before .before .before .before .before .before .before .args .b) (c .before .before .before .before .before .before .before .before .before .before .args .list .now) cfg st (c .before .before .before .before .before .before .before .before .before .before .args .now-ms) (c .before .before .before .before .before .before .before .before .before .before .args .success) h (c .before .before .before .before .before .before .if1 .left) (c .before .before .before .before .if2 .taken)
+returns-2 c =
+    let at-if2 = c .before .before .before .before in
+    let at-if1 = at-if2 .before .before .before in
+    let start = at-if1 .before .before .before in
+    λ ok cfg st h. c .before .before .settle-locked2 .ensures ok cfg st h ∙ manual-none (start .args .b) (start .args .list .now) cfg st (start .args .now-ms) (start .args .success) h (at-if1 .if1 .left) (at-if2 .if2 .taken)
 
-sub-with-counts : tie.Need-sub-with-counts
-sub-with-counts c = search needs
+sub-counts : tie.Need-sub-counts
+sub-counts c = search needs
 
 with-counts-requires : tie.Need-with-counts-requires
 with-counts-requires c κs = search needs
@@ -37,11 +48,17 @@ same-length-3 c = search needs
 
 returns-3 : tie.Need-returns-3
 returns-3 c =
-    λ ok cfg st h. let b = c .before .before .before .before .before .before .before .before .before .before .before .before .args .b in
-    let s = c .before .before .before .before .before .before .before .before .before .before .before .before .args .list .now in
-    let q = c .before .before .before .before .with-counts .ensures cfg st (h .0) in
-    c .before .before .settle-locked3 .ensures (used-sound b s cfg st (c .before .before .before .before .before .before .before .before .before .before .before .before .args .now-ms) (c .before .before .before .before .before .before .before .before .before .before .before .before .args .success) h ok (c .before .before .before .before .before .before .before .before .if1 .left) (c .before .before .before .before .with-counts .result) q) cfg (used b s cfg st (c .before .before .before .before .before .before .before .before .before .before .before .before .args .now-ms) (c .before .before .before .before .before .before .before .before .before .before .before .before .args .success) h) (q, h .1)
-    ∙ manual-one b s cfg st (c .before .before .before .before .before .before .before .before .before .before .before .before .args .now-ms) (c .before .before .before .before .before .before .before .before .before .before .before .before .args .success) h (c .before .before .before .before .before .before .before .before .if1 .left) (c .before .before .before .before .before .before .if2 .left)
+    let at-with-counts = c .before .before .before .before in
+    let at-if2 = at-with-counts .before .before in
+    let at-if1 = at-if2 .before .before .before in
+    let start = at-if1 .before .before .before in
+    λ ok cfg st h.
+    let x = start .args .b .shared .counts in
+    let used : Counts = record { inflight = x .inflight; «trait_probes» = x .«trait_probes» - 1; successes = x .successes } in
+    let q : used ≡ lessCounts 0 1 0 x = ap₂ (λ (i j : ℕ). record { inflight = i; «trait_probes» = x .«trait_probes» - 1; successes = j }) (sym (sub-zero (x .inflight))) (sym (add-zero (x .successes))) in
+    let next = at-with-counts .with-counts .ensures cfg st (h .0) in
+    c .before .before .settle-locked3 .ensures (used-sound (start .args .b) (start .args .list .now) cfg st (start .args .now-ms) (start .args .success) h (at-if1 .if1 .left) (at-if2 .if2 .left) used q ok (at-with-counts .with-counts .result) next) cfg (withCounts used st) (next, h .1)
+    ∙ manual-one (start .args .b) (start .args .list .now) cfg st (start .args .now-ms) (start .args .success) h (at-if1 .if1 .left) (at-if2 .if2 .left) used q
 
 pub manual-locked-spec : {M : Type 1} → statement M
 manual-locked-spec =
@@ -53,7 +70,7 @@ manual-locked-spec =
     settle-locked-requires-2
     same-length-2
     returns-2
-    sub-with-counts
+    sub-counts
     with-counts-requires
     settle-locked-requires-3
     same-length-3

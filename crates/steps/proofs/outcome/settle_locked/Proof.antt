@@ -1,11 +1,9 @@
--- `steps::outcome::settle_locked` meets its contract: by the state and the ticket, then the record that an outcome makes. Assumes nothing.
-use mathlib.Core.Path.{_≡_, ap, _∙_}
-use native.Mathlib.Omega.{arith}
+-- `steps::outcome::settle_locked` meets its contract: by the state, the ticket, and what was decided. Assumes nothing.
+use mathlib.Core.Path.{_≡_, sym, ap, _∙_}
 use borrow.Author.Needs.{needs}
-use Rattle.error.specs.Told.{refused}
-use Rattle.breaker.specs.declared.Breaker.{Breaker}
-use Rattle.breaker.specs.Calls.{after}
-use Rattle.steps.proofs.Settling.{settle-stale, settle-closed}
+use Rattle.breaker.specs.Record.{settings}
+use Rattle.steps.specs.declared.Recorded.{Recorded}
+use Rattle.steps.proofs.Settling.{settle-stale, settle-refused, settle-counted, settle-tripped}
 use Rattle.steps.proofs.outcome.settle_locked.Statement.{statement}
 use Rattle.steps.proofs.outcome.settle_locked.Tie as tie
 
@@ -16,10 +14,14 @@ same-length : tie.Need-same-length
 same-length c = search needs
 
 returns : tie.Need-returns
-returns c = λ ok cfg st h. c .before .before .settle-unclosed .ensures ok (c .before .before .before .before .if1 .taken) cfg st h
+returns c =
+    let at-if1 = c .before .before .before .before in
+    λ ok cfg st h. c .before .before .settle-unclosed .ensures ok (at-if1 .if1 .taken) cfg st h
 
 returns-2 : tie.Need-returns-2
-returns-2 c = λ ok cfg st h. settle-stale (c .before .before .before .before .before .before .before .args .b) (c .before .before .before .before .before .before .before .args .list .now) cfg st (c .before .before .before .before .before .before .before .args .now-ms) (c .before .before .before .before .before .before .before .args .t) (c .before .before .before .before .before .before .before .args .success) h (c .if2 .taken)
+returns-2 c =
+    let start = c .before .before .before .before .before .before in
+    λ ok cfg st h. settle-stale (start .args .b) (start .args .list .now) cfg st (start .args .now-ms) (start .args .t) (start .args .success) h (c .if2 .taken)
 
 settle-closed-requires : tie.Need-settle-closed-requires
 settle-closed-requires c κs = search needs
@@ -27,14 +29,14 @@ settle-closed-requires c κs = search needs
 enum-known-r : tie.Need-enum-known-r
 enum-known-r c = search needs
 
-enum-known-run : tie.Need-enum-known-run
-enum-known-run c = search needs
+enum-known-change : tie.Need-enum-known-change
+enum-known-change c = search needs
 
 with-history-requires : tie.Need-with-history-requires
 with-history-requires c κs = search needs
 
-enum-known-run-2 : tie.Need-enum-known-run-2
-enum-known-run-2 c = search needs
+enum-known-change-2 : tie.Need-enum-known-change-2
+enum-known-change-2 c = search needs
 
 with-history-requires-2 : tie.Need-with-history-requires-2
 with-history-requires-2 c κs = search needs
@@ -47,27 +49,40 @@ same-length-2 c = search needs
 
 returns-3 : tie.Need-returns-3
 returns-3 c =
-    λ ok cfg st h. let k = rw (c .before .r .given .1) at (c .before .before .before .before .before .settle-closed .ensures ok cfg st h (c .before .before .before .before .before .before .before .before .before .before .before .before .before .before .args .t)) in
-    ap (λ (x : Breaker). after (refused (c .before .r .given .0 .0)) x (c .before .before .before .before .before .settle-closed .last .1 .0)) (h .0) ∙ k
-    ∙ settle-closed (c .before .before .before .before .before .before .before .before .before .before .before .before .before .before .args .b) (c .before .before .before .before .before .before .before .before .before .before .before .before .before .before .args .list .now) cfg st (c .before .before .before .before .before .before .before .before .before .before .before .before .before .before .args .now-ms) (c .before .before .before .before .before .before .before .before .before .before .before .before .before .before .args .t) (c .before .before .before .before .before .before .before .before .before .before .before .before .before .before .args .success) h (c .before .before .before .before .before .before .before .if2 .left) (λ z. omega (arith, c .before .before .before .before .before .before .before .before .before .before .if1 .left)) (c .before .before .before .before .before .before .before .before .before .before .if1 .left)
+    let at-settle-closed = c .before .before .before .before .before in
+    let at-if2 = at-settle-closed .before .before in
+    let at-if1 = at-if2 .before .before .before in
+    let start = at-if1 .before .before .before in
+    λ ok cfg st h.
+    let d = rw (c .before .r .given .1) at (at-settle-closed .settle-closed .ensures ok cfg st h) in
+    settle-refused (start .args .b) (start .args .list .now) cfg st (start .args .now-ms) (start .args .t) (start .args .success) h (at-if2 .if2 .left) (at-if1 .if1 .left) (at-settle-closed .settle-closed .last .1 .0) (c .before .r .given .0 .0) (d .0) (d .1)
 
 same-length-3 : tie.Need-same-length-3
 same-length-3 c = search needs
 
 returns-4 : tie.Need-returns-4
 returns-4 c =
-    λ ok cfg st h. let k = rw (c .before .before .run .given .1) at (c .before .before .before .before .before .before .settle-closed .ensures ok cfg st h (c .before .before .before .before .before .before .before .before .before .before .before .before .before .before .before .args .t)) in
-    k (c .with-history .result) (λ xs l. c .with-history .ensures cfg st xs (h .0) l)
-    ∙ settle-closed (c .before .before .before .before .before .before .before .before .before .before .before .before .before .before .before .args .b) (c .before .before .before .before .before .before .before .before .before .before .before .before .before .before .before .args .list .now) cfg st (c .before .before .before .before .before .before .before .before .before .before .before .before .before .before .before .args .now-ms) (c .before .before .before .before .before .before .before .before .before .before .before .before .before .before .before .args .t) (c .before .before .before .before .before .before .before .before .before .before .before .before .before .before .before .args .success) h (c .before .before .before .before .before .before .before .before .if2 .left) (λ z. omega (arith, c .before .before .before .before .before .before .before .before .before .before .before .if1 .left)) (c .before .before .before .before .before .before .before .before .before .before .before .if1 .left)
+    let at-settle-closed = c .before .before .before .before .before .before in
+    let at-if2 = at-settle-closed .before .before in
+    let at-if1 = at-if2 .before .before .before in
+    let start = at-if1 .before .before .before in
+    λ ok cfg st h.
+    let d = rw (c .before .before .change .given .1) at (at-settle-closed .settle-closed .ensures ok cfg st h) in
+    settle-counted (start .args .b) (start .args .list .now) cfg st (start .args .now-ms) (start .args .t) (start .args .success) h (at-if2 .if2 .left) (at-if1 .if1 .left) (at-settle-closed .settle-closed .last .1 .0) (c .before .before .change .given .0 .0) (d .0) (d .1) (c .with-history .result) (λ xs l. c .with-history .ensures cfg st xs (h .0) l)
 
 same-length-4 : tie.Need-same-length-4
 same-length-4 c = search needs
 
 returns-5 : tie.Need-returns-5
 returns-5 c =
-    λ ok cfg st h. let k = rw (c .before .before .before .run2 .given .1) at (c .before .before .before .before .before .before .before .settle-closed .ensures ok cfg st h (c .before .before .before .before .before .before .before .before .before .before .before .before .before .before .before .before .args .t)) in
-    k (c .before .with-history2 .result) (c .opened .result) (λ xs l. c .before .with-history2 .ensures cfg st xs (h .0) l) (λ st′ e. c .opened .ensures cfg st′ e)
-    ∙ settle-closed (c .before .before .before .before .before .before .before .before .before .before .before .before .before .before .before .before .args .b) (c .before .before .before .before .before .before .before .before .before .before .before .before .before .before .before .before .args .list .now) cfg st (c .before .before .before .before .before .before .before .before .before .before .before .before .before .before .before .before .args .now-ms) (c .before .before .before .before .before .before .before .before .before .before .before .before .before .before .before .before .args .t) (c .before .before .before .before .before .before .before .before .before .before .before .before .before .before .before .before .args .success) h (c .before .before .before .before .before .before .before .before .before .if2 .left) (λ z. omega (arith, c .before .before .before .before .before .before .before .before .before .before .before .before .if1 .left)) (c .before .before .before .before .before .before .before .before .before .before .before .before .if1 .left)
+    let at-settle-closed = c .before .before .before .before .before .before .before in
+    let at-if2 = at-settle-closed .before .before in
+    let at-if1 = at-if2 .before .before .before in
+    let start = at-if1 .before .before .before in
+    λ ok cfg st h.
+    let d = rw (c .before .before .before .change2 .given .1) at (at-settle-closed .settle-closed .ensures ok cfg st h) in
+    settle-tripped (start .args .b) (start .args .list .now) cfg st (start .args .now-ms) (start .args .t) (start .args .success) h (at-if2 .if2 .left) (at-if1 .if1 .left) (at-settle-closed .settle-closed .last .1 .0) (c .before .before .before .change2 .given .0 .0) (d .0) (d .1) (c .before .with-history2 .result) (c .opened .result)
+    (λ xs l. c .before .with-history2 .ensures cfg st xs (h .0) l) (λ u e. c .opened .ensures cfg u e)
 
 pub settle-locked-spec : {M : Type 1} → statement M
 settle-locked-spec =
@@ -79,9 +94,9 @@ settle-locked-spec =
     returns-2
     settle-closed-requires
     enum-known-r
-    enum-known-run
+    enum-known-change
     with-history-requires
-    enum-known-run-2
+    enum-known-change-2
     with-history-requires-2
     opened-requires
     same-length-2

@@ -30,14 +30,20 @@ config-of-requires c κs = search needs
 
 returns : tie.Need-returns
 returns c =
-    let t = millis-refused (c .before .before .before .before .before .before .before .before .args .self .cooldown) (c .before .r .given .0 .0) (sym (ap millisTold (c .before .r .given .1)) ∙ c .before .before .before .as-millis .ensures) in
-    t .1 ∙ config-time (c .before .before .before .before .before .before .before .before .args .self) (t .0)
+    let start = c .before .before .before .before .before .before .before .before in
+    let t = millis-refused (start .args .self .cooldown) (c .before .r .given .0 .0) (sym (ap millisTold (c .before .r .given .1)) ∙ c .before .before .before .as-millis .ensures) in
+    t .1 ∙ config-time (start .args .self) (t .0)
 
 returns-2 : tie.Need-returns-2
 returns-2 c =
-    let t = millis-whole (c .before .before .before .before .before .before .before .before .before .args .self .cooldown) (c .before .before .cooldown-ms .given .0 .0) (sym (ap millisTold (c .before .before .cooldown-ms .given .1)) ∙ c .before .before .before .before .as-millis .ensures) in
+    let at-as-millis = c .before .before .before .before in
+    let at-at-most = at-as-millis .before in
+    let at-at-least-one2 = at-at-most .before in
+    let at-at-least-one = at-at-least-one2 .before in
+    let start = at-at-least-one .before .before in
+    let t = millis-whole (start .args .self .cooldown) (c .before .before .cooldown-ms .given .0 .0) (sym (ap millisTold (c .before .before .cooldown-ms .given .1)) ∙ at-as-millis .as-millis .ensures) in
     c .config-of .ensures
-    ∙ config-made (c .before .before .before .before .before .before .before .before .before .args .self) _ _ _ (t .0) (t .1) (c .before .before .before .before .before .before .before .at-least-one .ensures) (c .before .before .before .before .before .at-most .ensures ∙ ap (λ (n : ℕ). min n (c .before .before .before .before .before .before .before .at-least-one .result)) (c .before .before .before .before .before .before .at-least-one2 .ensures))
+    ∙ config-made (start .args .self) _ _ _ (t .0) (t .1) (at-at-least-one .at-least-one .ensures) (at-at-most .at-most .ensures ∙ ap (λ (n : ℕ). min n (at-at-least-one .at-least-one .result)) (at-at-least-one2 .at-least-one2 .ensures))
 
 pub config-spec : {M : Type 1} → statement M
 config-spec =
