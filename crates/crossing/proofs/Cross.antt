@@ -30,11 +30,11 @@ module _ (r : Told) (t : Answer) (b : Breaker) (s : List ℕ) (told : r ≡ pack
   cross-all answers a q = ap (λ (x : Told). crossings (crossing x b s) answers) told ∙ ap crossedAll q
 
 module _ (r : Waited) (t : Answer) (n : ℕ) (b : Breaker) (s : List ℕ) (p : Pending) (told : r ≡ packedWait t n) where
-  pub cross-wait : n ≡ 0 → (a : Waits.After) → Waits.after t b s p ≡ a → crossingWait r b s p ≡ crossedWait a
+  pub cross-wait : n ≡ 0 → (a : Waits.PendingAfter) → Waits.pendingAfter t b s p ≡ a → crossingWait r b s p ≡ crossedWait a
   unfolding crossedWait
   cross-wait z a q = ap (λ (x : Waited). crossingWait x b s p) (told ∙ ap (packedWait t) z) ∙ ap crossedWait q
 
-  pub cross-run : (x : Waits.Report) → Waits.report (Waits.after t b s p) n ≡ x → crossingWait r b s p ≡ crossedRun x
+  pub cross-run : (x : Waits.PendingRun) → Waits.pendingRun (Waits.pendingAfter t b s p) n ≡ x → crossingWait r b s p ≡ crossedRun x
   unfolding crossedRun
   cross-run x q = ap (λ (w : Waited). crossingWait w b s p) told ∙ ap crossedRun q
 

@@ -5,7 +5,7 @@ use lib.ListN.{getD}
 use Rattle.error.specs.Told.{Told as Answer}
 use Rattle.breaker.specs.declared.Breaker.{Breaker}
 use Rattle.waiting.specs.declared.Pending.{Pending}
-use Rattle.waiting.specs.Calls.{After, Report}
+use Rattle.waiting.specs.Calls.{PendingAfter, PendingRun}
 use Rattle.crossing.specs.declared.Waited.{Waited}
 
 -- the number, the values in their order, 0 where there is none, and the turns that a run took
@@ -23,8 +23,8 @@ abbrev pub crossingWait : Waited → Breaker → List ℕ → Pending → Crossi
 crossingWait t b s p = record { told = t; breaker = b; places = s; pending = p }
 
 -- a call that is no run took no turns
-unfoldable pub crossedWait : After → CrossingWait
+unfoldable pub crossedWait : PendingAfter → CrossingWait
 crossedWait a = crossingWait (packedWait (a .told) 0) (a .breaker) (a .places) (a .pending)
 
-unfoldable pub crossedRun : Report → CrossingWait
+unfoldable pub crossedRun : PendingRun → CrossingWait
 crossedRun x = crossingWait (packedWait (x .left .told) (x .taken)) (x .left .breaker) (x .left .places) (x .left .pending)

@@ -17,7 +17,8 @@ use Rattle.wait.specs.declared.Turned.the-variants.{Next, Ends}
 use Rattle.wait.specs.declared.Act.the-variants.{Yield}
 use Rattle.wait.specs.declared.Ending.the-variants.{Deadline}
 use Rattle.wait.specs.Turns.{endedWait, newWait, withZeros, turnInBounds, waitInBounds, retries, retriesZero}
-use Rattle.wait.specs.Keep.{turning, moves, turned}
+use Rattle.wait.specs.Manner.{turnedAs, turned}
+use Rattle.wait.specs.Keep.{moves, keep}
 use Rattle.edges.specs.Edges.{retryNow, P2, P3, P4, P5, P6, P7, P9, P10, P11, P12, edges, All}
 
 p2 : P2
@@ -57,8 +58,8 @@ unfolding run finish act
 p11 = (refl, refl, refl, refl)
 
 -- a wait with timeout 0 after k retries of 0
-abbrev after : ℕ → ℕ → Wait
-after clock k = withZeros k (newWait clock true 0)
+abbrev retried : ℕ → ℕ → Wait
+retried clock k = withZeros k (newWait clock true 0)
 
 module _ (clock : ℕ) (l : clock ≤ 2 ^ 62) where
   in-time : leb clock (2 ^ 62) ≡ true
@@ -70,23 +71,23 @@ module _ (clock : ℕ) (l : clock ≤ 2 ^ 62) where
   nothing-left : clock + 0 - clock ≡ 0
   nothing-left = omega arith
 
-  yield-1 : turned (after clock 0) (retryNow clock) ≡ turning (Next Yield) (after clock 1)
+  yield-1 : turned keep (retried clock 0) (retryNow clock) ≡ turnedAs (Next Yield) (retried clock 1)
   unfolding turned turnInBounds waitInBounds moves retries retriesZero
   yield-1 = rw (in-time, at-deadline, nothing-left) refl
 
-  yield-2 : turned (after clock 1) (retryNow clock) ≡ turning (Next Yield) (after clock 2)
+  yield-2 : turned keep (retried clock 1) (retryNow clock) ≡ turnedAs (Next Yield) (retried clock 2)
   unfolding turned turnInBounds waitInBounds moves retries retriesZero
   yield-2 = rw (in-time, at-deadline, nothing-left) refl
 
-  yield-3 : turned (after clock 2) (retryNow clock) ≡ turning (Next Yield) (after clock 3)
+  yield-3 : turned keep (retried clock 2) (retryNow clock) ≡ turnedAs (Next Yield) (retried clock 3)
   unfolding turned turnInBounds waitInBounds moves retries retriesZero
   yield-3 = rw (in-time, at-deadline, nothing-left) refl
 
-  yield-4 : turned (after clock 3) (retryNow clock) ≡ turning (Next Yield) (after clock 4)
+  yield-4 : turned keep (retried clock 3) (retryNow clock) ≡ turnedAs (Next Yield) (retried clock 4)
   unfolding turned turnInBounds waitInBounds moves retries retriesZero
   yield-4 = rw (in-time, at-deadline, nothing-left) refl
 
-  deadline-5 : turned (after clock 4) (retryNow clock) ≡ turning (Ends (Deadline 0)) endedWait
+  deadline-5 : turned keep (retried clock 4) (retryNow clock) ≡ turnedAs (Ends (Deadline 0)) endedWait
   unfolding turned turnInBounds waitInBounds moves retries retriesZero
   deadline-5 = rw (in-time, at-deadline, nothing-left) refl
 

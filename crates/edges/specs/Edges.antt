@@ -19,7 +19,8 @@ use Rattle.breaker.specs.Orders.{run}
 use Rattle.wait.specs.declared.Wait.{Wait}
 use Rattle.wait.specs.declared.Observed.{Observed}
 use Rattle.wait.specs.Turns.{newWait}
-use Rattle.wait.specs.Keep.{turned, tellTurn}
+use Rattle.wait.specs.Manner.{turned, tellTurn}
+use Rattle.wait.specs.Keep.{keep}
 
 -- "P1 n 0 becomes 1."
 abbrev pub P1 : Type 0
@@ -100,16 +101,16 @@ P10 =
     let t = ticketOf fresh false in
     (st .generation ≡ 1) × (stillAdmits reading t st ≡ tell 0 []) × (finish s reading (failure t) st ≡ done st)
 
-abbrev pub ending : ℕ → List Call → ℕ
-ending required cs = run (set (Consecutive 2) 1000 required) 40 cs (trying 7) .after .state
+abbrev pub finalState : ℕ → List Call → ℕ
+finalState required cs = run (set (Consecutive 2) 1000 required) 40 cs (trying 7) .after .state
 
 -- "P11 trials 2, required 2: success and failure open in either order; required 1: order decides."
 abbrev pub P11 : Type 0
 P11 =
-    (ending 2 (success (probe 7) ∷ failure (probe 7) ∷ []) ≡ Open)
-    × (ending 2 (failure (probe 7) ∷ success (probe 7) ∷ []) ≡ Open)
-    × (ending 1 (success (probe 7) ∷ failure (probe 7) ∷ []) ≡ Closed)
-    × (ending 1 (failure (probe 7) ∷ success (probe 7) ∷ []) ≡ Open)
+    (finalState 2 (success (probe 7) ∷ failure (probe 7) ∷ []) ≡ Open)
+    × (finalState 2 (failure (probe 7) ∷ success (probe 7) ∷ []) ≡ Open)
+    × (finalState 1 (success (probe 7) ∷ failure (probe 7) ∷ []) ≡ Closed)
+    × (finalState 1 (failure (probe 7) ∷ success (probe 7) ∷ []) ≡ Open)
 
 -- ---- waiting
 
@@ -121,7 +122,7 @@ retryNow clock =
 -- what each turn tells
 abbrev pub tells : List Observed → Wait → List Told
 tells [] w = []
-tells (t ∷ ts) w = tellTurn (turned w t) .told ∷ tells ts (turned w t .wait)
+tells (t ∷ ts) w = tellTurn (turned keep w t) .told ∷ tells ts (turned keep w t .wait)
 
 abbrev pub yields : Told
 yields = tell 0 (3 ∷ [])

@@ -50,14 +50,14 @@ use Rattle.waiting.proofs.Begun as Begun
 use Rattle.waiting.proofs.Begun.Laws as Begun·laws
 use Rattle.waiting.proofs.Awaited as Awaited
 use Rattle.waiting.proofs.Awaited.Laws as Awaited·laws
-use Rattle.waiting.proofs.Waited as Waited
-use Rattle.waiting.proofs.Waited.Laws as Waited·laws
+use Rattle.waiting.proofs.Progress as Progress
+use Rattle.waiting.proofs.Progress.Laws as Progress·laws
 use Rattle.waiting.proofs.Beginning as Beginning
 use Rattle.waiting.proofs.Beginning.Laws as Beginning·laws
 use Rattle.waiting.proofs.Awaiting as Awaiting
 use Rattle.waiting.proofs.Awaiting.Laws as Awaiting·laws
-use Rattle.waiting.proofs.Running as Running
-use Rattle.waiting.proofs.Running.Laws as Running·laws
+use Rattle.waiting.proofs.Proceeding as Proceeding
+use Rattle.waiting.proofs.Proceeding.Laws as Proceeding·laws
 use Rattle.waiting.proofs.Leaving as Leaving
 use Rattle.waiting.proofs.Leaving.Laws as Leaving·laws
 
@@ -116,8 +116,8 @@ begun = ofEnum Begun.the-type Begun·laws.the-laws tt Begun·laws.the-plain
 abbrev pub awaited : One
 awaited = ofEnum Awaited.the-type Awaited·laws.the-laws tt Awaited·laws.the-plain
 
-abbrev pub waited : One
-waited = ofStruct Waited.the-type Waited·laws.the-laws Waited·laws.the-plain
+abbrev pub progress : One
+progress = ofStruct Progress.the-type Progress·laws.the-laws Progress·laws.the-plain
 
 abbrev pub dropped : One
 dropped = ofEnum Dropped.the-type Dropped·laws.the-laws tt Dropped·laws.the-plain
@@ -148,8 +148,8 @@ beginning = ofFields Beginning.the-type Beginning·laws.the-laws (λ z. (z .answ
 abbrev pub awaiting : Fields (awaited ∷ breaker ∷ pending ∷ [])
 awaiting = ofFields Awaiting.the-type Awaiting·laws.the-laws (λ z. (z .answer, (z .breaker, (z .pending, tt)))) refl (λ z. refl) (λ z are. are)
 
-abbrev pub running : Fields (waited ∷ breaker ∷ pending ∷ [])
-running = ofFields Running.the-type Running·laws.the-laws (λ z. (z .answer, (z .breaker, (z .pending, tt)))) refl (λ z. refl) (λ z are. are)
+abbrev pub proceeding : Fields (progress ∷ breaker ∷ pending ∷ [])
+proceeding = ofFields Proceeding.the-type Proceeding·laws.the-laws (λ z. (z .answer, (z .breaker, (z .pending, tt)))) refl (λ z. refl) (λ z are. are)
 
 abbrev pub leaving : Fields (dropped ∷ breaker ∷ pending ∷ [])
 leaving = ofFields Leaving.the-type Leaving·laws.the-laws (λ z. (z .answer, (z .breaker, (z .pending, tt)))) refl (λ z. refl) (λ z are. are)

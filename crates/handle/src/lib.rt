@@ -11,7 +11,7 @@ ghost use Rattle.breaker.specs.Batch.{batch, slices, finishedAll};
 ghost use Rattle.wait.specs.Answers.{droppedTold};
 ghost use Rattle.waiting.specs.Answers.{begunTold, awaitedTold, courseTold};
 ghost use Rattle.waiting.specs.Calls as Waits;
-ghost use Rattle.waiting.specs.Calls.{report};
+ghost use Rattle.waiting.specs.Calls.{pendingAfter, pendingRun};
 use breaker::Admission;
 use breaker::Breaker;
 use breaker::Counted;
@@ -30,7 +30,7 @@ use wait::Observed;
 use waiting::Awaited;
 use waiting::Begun;
 use waiting::Pending;
-use waiting::Waited;
+use waiting::Progress;
 
 // ---- calls that may change the record; one that is refused leaves all as it was
 
@@ -270,7 +270,7 @@ pub fn wait_start(
     limited: bool,
     timeout: u64,
 ) -> Begun
-    ensures { λ r. ⌜ Waits.after (begunTold r) (now (breaker .exit)) (now (list .exit)) (now (pending .exit)) ≡ Waits.starting «now_ms» clock limited timeout (now (breaker .entry)) (now (list .entry)) (now (pending .entry)) ⌝ }
+    ensures { λ r. ⌜ pendingAfter (begunTold r) (now (breaker .exit)) (now (list .exit)) (now (pending .exit)) ≡ Waits.starting «now_ms» clock limited timeout (now (breaker .entry)) (now (list .entry)) (now (pending .entry)) ⌝ }
 {
     let s = waiting::start(*breaker, list, *pending, now_ms, clock, limited, timeout);
     *breaker = s.breaker;
@@ -288,7 +288,7 @@ pub fn wait_turn(
     now_ms: u64,
     capacity: u32,
 ) -> Awaited
-    ensures { λ r. ⌜ Waits.after (awaitedTold r) (now (breaker .exit)) (now (list .exit)) (now (pending .exit)) ≡ Waits.turning turn «now_ms» capacity (now (breaker .entry)) (now (list .entry)) (now (pending .entry)) ⌝ }
+    ensures { λ r. ⌜ pendingAfter (awaitedTold r) (now (breaker .exit)) (now (list .exit)) (now (pending .exit)) ≡ Waits.turning turn «now_ms» capacity (now (breaker .entry)) (now (list .entry)) (now (pending .entry)) ⌝ }
 {
     let s = waiting::turn(*breaker, list, *pending, turn, now_ms, capacity);
     *breaker = s.breaker;
@@ -306,8 +306,8 @@ pub fn wait_run(
     limit: u64,
     now_ms: u64,
     capacity: u32,
-) -> Waited
-    ensures { λ r. ⌜ report (Waits.after (courseTold (r .course)) (now (breaker .exit)) (now (list .exit)) (now (pending .exit))) (r .taken) ≡ Waits.running (now (turns .entry)) limit «now_ms» capacity (now (breaker .entry)) (now (list .entry)) (now (pending .entry)) ⌝ }
+) -> Progress
+    ensures { λ r. ⌜ pendingRun (pendingAfter (courseTold (r .course)) (now (breaker .exit)) (now (list .exit)) (now (pending .exit))) (r .taken) ≡ Waits.running (now (turns .entry)) limit «now_ms» capacity (now (breaker .entry)) (now (list .entry)) (now (pending .entry)) ⌝ }
 {
     let s = waiting::run(*breaker, list, *pending, turns, limit, now_ms, capacity);
     *breaker = s.breaker;
@@ -318,7 +318,7 @@ pub fn wait_run(
 // Ends a wait before its time: the ticket is given back, and a held grant is to be.
 // Ruled out: a drop whose ticket stays out; a wait that can be dropped twice.
 pub fn wait_drop(breaker: &mut Breaker, list: &mut [u64], pending: &mut Pending) -> Dropped
-    ensures { λ r. ⌜ Waits.after (droppedTold r) (now (breaker .exit)) (now (list .exit)) (now (pending .exit)) ≡ Waits.leaving (now (breaker .entry)) (now (list .entry)) (now (pending .entry)) ⌝ }
+    ensures { λ r. ⌜ pendingAfter (droppedTold r) (now (breaker .exit)) (now (list .exit)) (now (pending .exit)) ≡ Waits.leaving (now (breaker .entry)) (now (list .entry)) (now (pending .entry)) ⌝ }
 {
     let s = waiting::drop_pending(*breaker, list, *pending);
     *breaker = s.breaker;

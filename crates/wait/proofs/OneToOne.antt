@@ -21,8 +21,8 @@ use Rattle.wait.specs.declared.Turning.{Turning}
 use Rattle.wait.specs.declared.Running.{Running}
 use Rattle.wait.specs.declared.Dropping.{Dropping}
 use Rattle.wait.specs.Answers.{turnedTold, ranTold, startedTold, droppedTold}
-use Rattle.wait.specs.Keep.{After, turning, tellTurn}
-use Rattle.wait.specs.Run.{running, dropping, Report, tellRun, tellDrop}
+use Rattle.wait.specs.Manner.{WaitAfter, turnedAs, tellTurn, droppedAs, tellDrop}
+use Rattle.wait.specs.Run.{ranAs, RunAfter, tellRun}
 
 -- what the host is to do
 abbrev pub actIn : List ℕ → Act
@@ -95,12 +95,12 @@ dropped-one = one droppedTold (read goodDropped (λ n vs. goodDropped vs) Droppe
 
 pub turning-one : (a b : Turning) → tellTurn a ≡ tellTurn b → a ≡ b
 turning-one a b e =
-    ap (λ (x : Turned). turning x (a .wait)) (turned-one (a .answer) (b .answer) (ap (λ (x : After). x .told) e)) ∙ ap (λ (x : After). turning (b .answer) (x .wait)) e
+    ap (λ (x : Turned). turnedAs x (a .wait)) (turned-one (a .answer) (b .answer) (ap (λ (x : WaitAfter). x .told) e)) ∙ ap (λ (x : WaitAfter). turnedAs (b .answer) (x .wait)) e
 
 pub running-one : (a b : Running) → tellRun a ≡ tellRun b → a ≡ b
 running-one a b e =
-    ap (λ (x : Ran). running x (a .taken) (a .wait)) (ran-one (a .answer) (b .answer) (ap (λ (x : Report). x .told) e)) ∙ ap (λ (x : Report). running (b .answer) (x .taken) (x .wait)) e
+    ap (λ (x : Ran). ranAs x (a .taken) (a .wait)) (ran-one (a .answer) (b .answer) (ap (λ (x : RunAfter). x .told) e)) ∙ ap (λ (x : RunAfter). ranAs (b .answer) (x .taken) (x .wait)) e
 
 pub dropping-one : (a b : Dropping) → tellDrop a ≡ tellDrop b → a ≡ b
 dropping-one a b e =
-    ap (λ (x : Dropped). dropping x (a .wait)) (dropped-one (a .answer) (b .answer) (ap (λ (x : After). x .told) e)) ∙ ap (λ (x : After). dropping (b .answer) (x .wait)) e
+    ap (λ (x : Dropped). droppedAs x (a .wait)) (dropped-one (a .answer) (b .answer) (ap (λ (x : WaitAfter). x .told) e)) ∙ ap (λ (x : WaitAfter). droppedAs (b .answer) (x .wait)) e

@@ -1,4 +1,4 @@
--- A turn and a run of turns, by their tests and steps. Assumes nothing.
+-- A turn, a run of turns and a drop in any manner, by their tests and steps. Assumes nothing.
 use Prim.Native.Nat.{ℕ, suc, _+_, _-_, _/_, _%_, _≤_, _<_}
 use native.Mathlib.Omega.{arith}
 use mathlib.Core.Path.{_≡_, refl, sym, ap, _∙_}
@@ -14,34 +14,42 @@ use Rattle.wait.specs.declared.Wait.{Wait}
 use Rattle.wait.specs.declared.Observed.{Observed}
 use Rattle.wait.specs.declared.Act.{Act}
 use Rattle.wait.specs.declared.Ending.{Ending}
-use Rattle.wait.specs.declared.Tested.{Tested}
-use Rattle.wait.specs.declared.Tested.the-variants.{Passes, Fails}
+use Rattle.wait.specs.declared.TurnTest.{TurnTest}
+use Rattle.wait.specs.declared.TurnTest.the-variants.{Passes, Fails}
 use Rattle.wait.specs.declared.Move.{Move}
 use Rattle.wait.specs.declared.Move.the-variants.{Goes, Ends}
 use Rattle.wait.specs.declared.Turned.the-variants as Turned·is
+use Rattle.wait.specs.declared.Ran.{Ran}
 use Rattle.wait.specs.declared.Ran.the-variants as Ran·is
 use Rattle.wait.specs.declared.Running.{Running}
-use Rattle.wait.specs.Turns.{endedWait, hasEnded, turnInBounds, waitInBounds}
-use Rattle.wait.specs.Keep.{turning, leaves, isKnown, inOrder, tested, moves, turned}
-use Rattle.wait.specs.Run.{running, standing, steps, turnOf, turnsOf, runs}
+use Rattle.wait.specs.declared.Dropped.the-variants as Dropped·is
+use Rattle.wait.specs.declared.Dropping.{Dropping}
+use Rattle.wait.specs.Turns.{endedWait, turnInBounds, waitInBounds}
+use Rattle.wait.specs.Manner.{Manner, inOrder, tested, turnedAs, leaves, turned, droppedAs, dropped}
+use Rattle.wait.specs.Run.{ranAs, uncounted, standing, steps, turnOf, turnsOf, runs}
 
 -- ---- the tests of a turn
 
 -- a function of the answer may be taken of each answer beforehand
 pub in-order : {A B : Type 0} (h : A → B) (f : Refusal → A) (a : A) (x y : Bool) → h (inOrder x y f a) ≡ inOrder x y (λ r. h (f r)) (h a)
-in-order h f a true y = refl
+in-order h f a true true = refl
+in-order h f a true false = refl
 in-order h f a false true = refl
 in-order h f a false false = refl
 
--- what a verdict comes to, and that it is what the tests come to
-abbrev by : {A : Type 0} → (Refusal → A) → A → Tested → A
+-- what holds of every refusal, and of the answer where neither cause is there
+pub in-order-cases : {A : Type 0} (P : A → Type 0) (x y : Bool) (f : Refusal → A) (a : A) → ((r : Refusal) → P (f r)) → (x ≡ false → y ≡ false → P a) → P (inOrder x y f a)
+in-order-cases P true true f a g h = g _
+in-order-cases P true false f a g h = g _
+in-order-cases P false true f a g h = g _
+in-order-cases P false false f a g h = h refl refl
+
+-- what a verdict comes to
+abbrev by : {A : Type 0} → (Refusal → A) → A → TurnTest → A
 by f a Passes = a
 by f a (Fails r) = f r
 
-by-verdict : {A : Type 0} (f : Refusal → A) (a : A) (w : Wait) (t : Observed) (v : Tested) → v ≡ tested Fails Passes w t → by f a v ≡ tested f a w t
-by-verdict f a w t v e = ap (by f a) e ∙ in-order (by f a) Fails Passes (hasEnded w || not (isKnown (t .kind))) (not (waitInBounds w && turnInBounds t))
-
-abbrev passed : Tested → Bool
+abbrev passed : TurnTest → Bool
 passed Passes = true
 passed (Fails r) = false
 
@@ -50,28 +58,32 @@ in-bounds x true e = refl
 in-bounds true false e = absurd (false≢true (sym (ap passed e)))
 in-bounds false false e = absurd (false≢true (sym (ap passed e)))
 
--- a turn that passes its tests is within its bounds
-pub passes-bounds : (w : Wait) (t : Observed) → Passes ≡ tested Fails Passes w t → (turnInBounds t ≡ true) × (waitInBounds w ≡ true)
-passes-bounds w t e =
-    let b = and-split (waitInBounds w) (turnInBounds t) (in-bounds (hasEnded w || not (isKnown (t .kind))) (waitInBounds w && turnInBounds t) e) in
-    (b .1, b .0)
+module _ (m : Manner) (w : Wait) (t : Observed) where
+  -- a verdict is what the tests come to
+  by-verdict : {A : Type 0} (f : Refusal → A) (a : A) (v : TurnTest) → v ≡ tested m Fails Passes w t → by f a v ≡ tested m f a w t
+  by-verdict f a v e = ap (by f a) e ∙ in-order (by f a) Fails Passes (m .ended w || not (m .knows (t .kind))) (not (waitInBounds w && turnInBounds t))
 
--- ---- one turn
+  -- a turn that passes its tests is within its bounds
+  pub passes-bounds : Passes ≡ tested m Fails Passes w t → (turnInBounds t ≡ true) × (waitInBounds w ≡ true)
+  passes-bounds e =
+      let b = and-split (waitInBounds w) (turnInBounds t) (in-bounds (m .ended w || not (m .knows (t .kind))) (waitInBounds w && turnInBounds t) e) in
+      (b .1, b .0)
 
-module _ (w : Wait) (t : Observed) where
-  pub turn-refused : (r : Refusal) → Fails r ≡ tested Fails Passes w t → turning (Turned·is.Refused r) w ≡ turned w t
+  -- ---- one turn
+
+  pub turn-refused : (r : Refusal) → Fails r ≡ tested m Fails Passes w t → turnedAs (Turned·is.Refused r) w ≡ turned m w t
   unfolding turned
-  turn-refused r e = by-verdict (λ r. turning (Turned·is.Refused r) w) (leaves (moves w t)) w t (Fails r) e
+  turn-refused r e = by-verdict (λ r. turnedAs (Turned·is.Refused r) w) (leaves (m .moves w t)) (Fails r) e
 
-  pub turn-passed : (m : Move) → Passes ≡ tested Fails Passes w t → m ≡ moves w t → leaves m ≡ turned w t
+  pub turn-passed : (x : Move) → Passes ≡ tested m Fails Passes w t → x ≡ m .moves w t → leaves x ≡ turned m w t
   unfolding turned
-  turn-passed m p e = ap leaves e ∙ by-verdict (λ r. turning (Turned·is.Refused r) w) (leaves (moves w t)) w t Passes p
+  turn-passed x p e = ap leaves e ∙ by-verdict (λ r. turnedAs (Turned·is.Refused r) w) (leaves (m .moves w t)) Passes p
 
--- ---- a run
+-- ---- the turns that lie ahead
 
 -- what is left of a run, n turns on
 abbrev pub counting : ℕ → Running → Running
-counting n r = running (r .answer) (n + r .taken) (r .wait)
+counting n r = ranAs (r .answer) (n + r .taken) (r .wait)
 
 -- the turns that the limit allows of what lies ahead
 abbrev pub ahead : ℕ → List ℕ → List Observed
@@ -90,35 +102,6 @@ one-ahead k xs m =
     let n : length xs / 8 ≡ suc (length (drop 8 xs) / 8) = omega (arith, length-drop 8 xs, m) in
     rw n refl
 
-pub stops-here : (n : ℕ) (ts : List Observed) (w : Wait) → ts ≡ [] → counting n (steps ts w) ≡ running (standing w) n w
-unfolding steps
-stops-here n ts w e = rw e (ap (λ (k : ℕ). running (standing w) k w) (omega arith))
-
-module _ (n : ℕ) (w : Wait) (t : Observed) (ts : List Observed) where
-  pub step-refused : (r : Refusal) → Fails r ≡ tested Fails Passes w t → counting n (steps (t ∷ ts) w) ≡ running (Ran·is.Refused r) n w
-  unfolding steps
-  step-refused r e = ap (counting n) (sym (by-verdict (λ r. running (Ran·is.Refused r) 0 w) _ w t (Fails r) e)) ∙ ap (λ (k : ℕ). running (Ran·is.Refused r) k w) (omega arith)
-
-  pub step-goes : (act : Act) (next : Wait) → Passes ≡ tested Fails Passes w t → Goes act next ≡ moves w t
-      → counting n (steps (t ∷ ts) w) ≡ counting (n + 1) (steps ts next)
-  unfolding steps
-  step-goes act next p e = ap (counting n) (sym (by-verdict (λ r. running (Ran·is.Refused r) 0 w) _ w t Passes p)) ∙ rw (← e) (ap (λ (k : ℕ). running (steps ts next .answer) k (steps ts next .wait)) (omega arith))
-
-  pub step-ends : (e : Ending) → Passes ≡ tested Fails Passes w t → Ends e ≡ moves w t → counting n (steps (t ∷ ts) w) ≡ running (Ran·is.Ends e) (n + 1) endedWait
-  unfolding steps
-  step-ends e p q = ap (counting n) (sym (by-verdict (λ r. running (Ran·is.Refused r) 0 w) _ w t Passes p)) ∙ rw (← q) refl
-
-pub run-storage : (w : Wait) (xs : List ℕ) (limit : ℕ) → (length xs % 8 ≡ 0 → ⊥) → running (Ran·is.Refused Refusal·is.Storage) 0 w ≡ runs w xs limit
-unfolding runs
-run-storage w xs limit n = simp (ne-eqb _ _ n)
-
-pub run-starts : (w : Wait) (xs : List ℕ) (limit : ℕ) → length xs % 8 ≡ 0 → counting 0 (steps (ahead (limit - 0) xs) w) ≡ runs w xs limit
-unfolding runs
-run-starts w xs limit e =
-    let all : Running = steps (ahead limit xs) w in
-    let k : limit - 0 ≡ limit = omega arith in
-    rw (k, eq-eqb _ _ e) (ap (λ (k : ℕ). running (all .answer) k (all .wait)) (omega arith))
-
 -- the numbers from a place on
 pub turn-from : (s : List ℕ) (at : ℕ)
     → record {
@@ -135,9 +118,50 @@ turn-from s at =
     let z : at + 0 ≡ at = omega arith in
     simp (getD-drop, z)
 
+-- ---- a run
+
+module _ (m : Manner) where
+  -- a wait that has ended or not, where no turn is left
+  pub stands : (w : Wait) (ended : Bool) (a : Ran) → ended ≡ m .ended w → a ≡ inOrder ended (not (waitInBounds w)) Ran·is.Refused Ran·is.Unfinished
+      → a ≡ standing m w
+  unfolding standing
+  stands w ended a e q = q ∙ rw e
+
+  pub stops-here : (n : ℕ) (ts : List Observed) (w : Wait) → ts ≡ [] → counting n (steps m ts w) ≡ ranAs (standing m w) n w
+  unfolding steps
+  stops-here n ts w e = rw e (ap (λ (k : ℕ). ranAs (standing m w) k w) (omega arith))
+
+  module _ (n : ℕ) (w : Wait) (t : Observed) (ts : List Observed) where
+    pub step-refused : (r : Refusal) → Fails r ≡ tested m Fails Passes w t → counting n (steps m (t ∷ ts) w) ≡ ranAs (Ran·is.Refused r) n w
+    unfolding steps
+    step-refused r e =
+        ap (counting n) (sym (by-verdict m w t (uncounted w) _ (Fails r) e)) ∙ ap (λ (k : ℕ). ranAs (Ran·is.Refused r) k w) (omega arith)
+
+    pub step-goes : (act : Act) (next : Wait) → Passes ≡ tested m Fails Passes w t → Goes act next ≡ m .moves w t
+        → counting n (steps m (t ∷ ts) w) ≡ counting (n + 1) (steps m ts next)
+    unfolding steps
+    step-goes act next p e =
+        let more = steps m ts next in
+        ap (counting n) (sym (by-verdict m w t (uncounted w) _ Passes p)) ∙ rw (← e) (ap (λ (k : ℕ). ranAs (more .answer) k (more .wait)) (omega arith))
+
+    pub step-ends : (e : Ending) → Passes ≡ tested m Fails Passes w t → Ends e ≡ m .moves w t → counting n (steps m (t ∷ ts) w) ≡ ranAs (Ran·is.Ends e) (n + 1) endedWait
+    unfolding steps
+    step-ends e p q = ap (counting n) (sym (by-verdict m w t (uncounted w) _ Passes p)) ∙ rw (← q) refl
+
+  pub run-storage : (w : Wait) (xs : List ℕ) (limit : ℕ) → (length xs % 8 ≡ 0 → ⊥) → uncounted w Refusal·is.Storage ≡ runs m w xs limit
+  unfolding runs
+  run-storage w xs limit n = simp (ne-eqb _ _ n)
+
+  pub run-starts : (w : Wait) (xs : List ℕ) (limit : ℕ) → length xs % 8 ≡ 0 → counting 0 (steps m (ahead (limit - 0) xs) w) ≡ runs m w xs limit
+  unfolding runs
+  run-starts w xs limit e =
+      let all : Running = steps m (ahead limit xs) w in
+      let k : limit - 0 ≡ limit = omega arith in
+      rw (k, eq-eqb _ _ e) (ap (λ (k : ℕ). ranAs (all .answer) k (all .wait)) (omega arith))
+
 -- ---- the loop: s is the buffer, at the place reached
 
-module _ (s : List ℕ) (limit at taken : ℕ) (w : Wait) where
+module _ (s : List ℕ) (limit at taken : ℕ) where
   -- the place reached has a turn, if it is not the end
   pub a-turn : length (drop at s) % 8 ≡ 0 → at < length s → 8 ≤ length (drop at s)
   a-turn d l = omega (arith, d, l, length-drop at s)
@@ -154,24 +178,25 @@ module _ (s : List ℕ) (limit at taken : ℕ) (w : Wait) where
   pub next-less : at < length s → length (drop (at + 8) s) < length (drop at s)
   next-less l = omega (arith, l, length-drop at s, length-drop (at + 8) s)
 
-  pub at-limit : limit ≤ taken → counting taken (steps (ahead (limit - taken) (drop at s)) w) ≡ running (standing w) taken w
-  at-limit l = stops-here taken _ w (limit-reached (drop at s) (limit - taken) (omega (arith, l)))
+module _ (m : Manner) (s : List ℕ) (limit at taken : ℕ) (w : Wait) where
+  pub at-limit : limit ≤ taken → counting taken (steps m (ahead (limit - taken) (drop at s)) w) ≡ ranAs (standing m w) taken w
+  at-limit l = stops-here m taken _ w (limit-reached (drop at s) (limit - taken) (omega (arith, l)))
 
-  pub at-end : length s ≤ at → counting taken (steps (ahead (limit - taken) (drop at s)) w) ≡ running (standing w) taken w
-  at-end l = stops-here taken _ w (none-ahead (limit - taken) (drop at s) (omega (arith, l, length-drop at s)))
+  pub at-end : length s ≤ at → counting taken (steps m (ahead (limit - taken) (drop at s)) w) ≡ ranAs (standing m w) taken w
+  at-end l = stops-here m taken _ w (none-ahead (limit - taken) (drop at s) (omega (arith, l, length-drop at s)))
 
   -- a turn v that was read there, in a run that comes to `all`
-  module _ (all : Running) (v : Observed) (d : length (drop at s) % 8 ≡ 0) (l : at < length s) (m : taken < limit)
-      (so : counting taken (steps (ahead (limit - taken) (drop at s)) w) ≡ all) (is : v ≡ turnOf (drop at s)) where
-    there : counting taken (steps (v ∷ ahead (limit - (taken + 1)) (drop (at + 8) s)) w) ≡ all
-    there = ap (λ (x : Observed). counting taken (steps (x ∷ ahead (limit - (taken + 1)) (drop (at + 8) s)) w)) is ∙ ap (λ (ts : List Observed). counting taken (steps ts w)) (sym (next-turn d l m)) ∙ so
+  module _ (all : Running) (v : Observed) (d : length (drop at s) % 8 ≡ 0) (l : at < length s) (lt : taken < limit)
+      (so : counting taken (steps m (ahead (limit - taken) (drop at s)) w) ≡ all) (is : v ≡ turnOf (drop at s)) where
+    there : counting taken (steps m (v ∷ ahead (limit - (taken + 1)) (drop (at + 8) s)) w) ≡ all
+    there = ap (λ (x : Observed). counting taken (steps m (x ∷ ahead (limit - (taken + 1)) (drop (at + 8) s)) w)) is ∙ ap (λ (ts : List Observed). counting taken (steps m ts w)) (sym (next-turn s limit at taken d l lt)) ∙ so
 
-    pub run-refused : (r : Refusal) → Fails r ≡ tested Fails Passes w v → running (Ran·is.Refused r) taken w ≡ all
-    run-refused r e = sym (step-refused taken w v _ r e) ∙ there
+    pub run-refused : (r : Refusal) → Fails r ≡ tested m Fails Passes w v → ranAs (Ran·is.Refused r) taken w ≡ all
+    run-refused r e = sym (step-refused m taken w v _ r e) ∙ there
 
-    pub run-ends : (e : Ending) → Passes ≡ tested Fails Passes w v → Ends e ≡ moves w v → running (Ran·is.Ends e) (taken + 1) endedWait ≡ all
-    run-ends e p q = sym (step-ends taken w v _ e p q) ∙ there
+    pub run-ends : (e : Ending) → Passes ≡ tested m Fails Passes w v → Ends e ≡ m .moves w v → ranAs (Ran·is.Ends e) (taken + 1) endedWait ≡ all
+    run-ends e p q = sym (step-ends m taken w v _ e p q) ∙ there
 
-    pub run-goes : (act : Act) (next : Wait) → Passes ≡ tested Fails Passes w v → Goes act next ≡ moves w v
-        → counting (taken + 1) (steps (ahead (limit - (taken + 1)) (drop (at + 8) s)) next) ≡ all
-    run-goes act next p q = sym (step-goes taken w v _ act next p q) ∙ there
+    pub run-goes : (act : Act) (next : Wait) → Passes ≡ tested m Fails Passes w v → Goes act next ≡ m .moves w v
+        → counting (taken + 1) (steps m (ahead (limit - (taken + 1)) (drop (at + 8) s)) next) ≡ all
+    run-goes act next p q = sym (step-goes m taken w v _ act next p q) ∙ there

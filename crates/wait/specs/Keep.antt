@@ -3,20 +3,14 @@ use Prim.Native.Nat.{ℕ, _+_, _-_, max}
 use mathlib.Core.Bool.{Bool, not, _&&_, _||_}
 use lib.Dec.{eqb, leb}
 use Rattle.error.specs.Choice.{if_then_else_}
-use Rattle.error.specs.Told.{Told}
-use Rattle.error.specs.declared.Refusal.{Refusal}
-use Rattle.error.specs.declared.Refusal.the-variants as Refusal·is
 use Rattle.wait.specs.declared.Wait.{Wait}
 use Rattle.wait.specs.declared.Observed.{Observed}
 use Rattle.wait.specs.declared.Act.the-variants.{Sleep}
 use Rattle.wait.specs.declared.Ending.the-variants.{Done, Deadline, Never}
 use Rattle.wait.specs.declared.Move.{Move}
 use Rattle.wait.specs.declared.Move.the-variants.{Goes, Ends}
-use Rattle.wait.specs.declared.Turned.{Turned}
-use Rattle.wait.specs.declared.Turned.the-variants as Turned·is
-use Rattle.wait.specs.declared.Turning.{Turning}
-use Rattle.wait.specs.Answers.{turnedTold}
-use Rattle.wait.specs.Turns.{endedWait, isHolding, hasEnded, turnInBounds, waitInBounds, remaining, exceeds, sleeping, retries}
+use Rattle.wait.specs.Turns.{isLooking, isHolding, remaining, exceeds, sleeping, retries}
+use Rattle.wait.specs.Manner.{Manner}
 
 -- a wait that holds a grant, with when it is due and the postponement it has seen
 abbrev pub holding : ℕ → ℕ → Wait → Wait
@@ -55,41 +49,14 @@ moves w t =
     else if eqb (t .kind) 2 then retries w t
     else Ends Never
 
--- ---- the entry point of a turn: 11, then 1
+-- ---- the manner
 
--- "Tested in the order … 11, 1": their causes, then `answer`
-abbrev pub inOrder : {A : Type 0} → Bool → Bool → (Refusal → A) → A → A
-inOrder unknown beyond refusal answer = if unknown then refusal Refusal·is.Turn else if beyond then refusal Refusal·is.Time else answer
+abbrev pub hasEnded : Wait → Bool
+hasEnded w = not (isLooking w || isHolding w)
 
--- "reply kind not 1 to 3 (held checks too), or a turn … handed an ended wait"
+-- "reply kind not 1 to 3"
 abbrev pub isKnown : ℕ → Bool
 isKnown k = eqb k 1 || (eqb k 2 || eqb k 3)
 
-abbrev pub turning : Turned → Wait → Turning
-turning answer w = record { answer = answer; wait = w }
-
-abbrev pub leaves : Move → Turning
-leaves (Goes act w) = turning (Turned·is.Next act) w
-leaves (Ends e) = turning (Turned·is.Ends e) endedWait
-
--- a turn, and a wait alone; `answer` says what one that is not refused comes to
-abbrev pub tested : {A : Type 0} → (Refusal → A) → A → Wait → Observed → A
-tested refusal answer w t = inOrder (hasEnded w || not (isKnown (t .kind))) (not (waitInBounds w && turnInBounds t)) refusal answer
-
-abbrev pub testedAlone : {A : Type 0} → (Refusal → A) → A → Wait → A
-testedAlone refusal answer w = inOrder (hasEnded w) (not (waitInBounds w)) refusal answer
-
--- a turn that is refused leaves the wait
-unfoldable pub turned : Wait → Observed → Turning
-turned w t = tested (λ r. turning (Turned·is.Refused r) w) (leaves (moves w t)) w t
-
--- what a turn leaves: what was told, and the wait
-pub record After : Type 0 where
-  pub told : Told
-  pub wait : Wait
-
-abbrev pub after : Told → Wait → After
-after t w = record { told = t; wait = w }
-
-abbrev pub tellTurn : Turning → After
-tellTurn r = after (turnedTold (r .answer)) (r .wait)
+abbrev pub keep : Manner
+keep = record { ended = hasEnded; holds = isHolding; knows = isKnown; moves = moves }

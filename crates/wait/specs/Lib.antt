@@ -1,6 +1,7 @@
 -- "Waiting answers": one turn, a run of turns, a dropped wait.
 pub mod Answers
 pub mod Turns
-pub mod Keep
+pub mod Manner
 pub mod Run
+pub mod Keep
 pub mod Budget

@@ -1,4 +1,4 @@
--- "Each run of turns has a limit and reports how many turns it took, which equals the steps of these rules." Definitions only.
+-- "Each run of turns has a limit and reports how many turns it took, which equals the steps of these rules." In any manner. Definitions only.
 use Prim.Native.Nat.{ℕ, zero, suc, _/_, _%_}
 use mathlib.Core.Bool.{Bool}
 use mathlib.Core.List.{List, [], _∷_}
@@ -6,6 +6,7 @@ use lib.Dec.{eqb}
 use lib.ListN.{length, take, drop, getD}
 use Rattle.error.specs.Choice.{if_then_else_}
 use Rattle.error.specs.Told.{Told}
+use Rattle.error.specs.declared.Refusal.{Refusal}
 use Rattle.error.specs.declared.Refusal.the-variants as Refusal·is
 use Rattle.wait.specs.declared.Wait.{Wait}
 use Rattle.wait.specs.declared.Observed.{Observed}
@@ -14,34 +15,35 @@ use Rattle.wait.specs.declared.Move.the-variants.{Goes, Ends}
 use Rattle.wait.specs.declared.Ran.{Ran}
 use Rattle.wait.specs.declared.Ran.the-variants as Ran·is
 use Rattle.wait.specs.declared.Running.{Running}
-use Rattle.wait.specs.declared.Dropped.{Dropped}
-use Rattle.wait.specs.declared.Dropped.the-variants as Dropped·is
-use Rattle.wait.specs.declared.Dropping.{Dropping}
-use Rattle.wait.specs.Answers.{ranTold, droppedTold}
-use Rattle.wait.specs.Turns.{endedWait, isHolding}
-use Rattle.wait.specs.Keep.{After, after, moves, tested, testedAlone}
+use Rattle.wait.specs.Answers.{ranTold}
+use Rattle.wait.specs.Turns.{endedWait}
+use Rattle.wait.specs.Manner.{Manner, tested, testedAlone}
 
 -- what a run comes to: its answer, the turns that it took, and the wait reached
-abbrev pub running : Ran → ℕ → Wait → Running
-running answer taken w = record { answer = answer; taken = taken; wait = w }
+abbrev pub ranAs : Ran → ℕ → Wait → Running
+ranAs answer taken w = record { answer = answer; taken = taken; wait = w }
 
 -- one step more
-abbrev pub counted : Running → Running
-counted r = running (r .answer) (suc (r .taken)) (r .wait)
+abbrev pub oneStepMore : Running → Running
+oneStepMore r = ranAs (r .answer) (suc (r .taken)) (r .wait)
 
--- ---- the steps. A refused turn isn't counted.
+-- ---- the steps
+
+-- a refused turn isn't counted, and leaves the wait
+abbrev pub uncounted : Wait → Refusal → Running
+uncounted w r = ranAs (Ran·is.Refused r) 0 w
 
 -- no turn is left, or the limit is reached: 11 and 1 for the wait alone, else 10
-unfoldable pub standing : Wait → Ran
-standing w = testedAlone Ran·is.Refused Ran·is.Unfinished w
+unfoldable pub standing : Manner → Wait → Ran
+standing m w = testedAlone m Ran·is.Refused Ran·is.Unfinished w
 
 abbrev pub onward : Move → (Wait → Running) → Running
-onward (Goes act w) more = counted (more w)
-onward (Ends e) more = running (Ran·is.Ends e) 1 endedWait
+onward (Goes act w) more = oneStepMore (more w)
+onward (Ends e) more = ranAs (Ran·is.Ends e) 1 endedWait
 
-unfoldable pub steps : List Observed → Wait → Running
-steps [] w = running (standing w) 0 w
-steps (t ∷ ts) w = tested (λ r. running (Ran·is.Refused r) 0 w) (onward (moves w t) (λ next. steps ts next)) w t
+unfoldable pub steps : Manner → List Observed → Wait → Running
+steps m [] w = ranAs (standing m w) 0 w
+steps m (t ∷ ts) w = tested m (uncounted w) (onward (m .moves w t) (λ next. steps m ts next)) w t
 
 -- ---- the entry point: "turns not a multiple of 8" is 3; then as many turns as the limit says
 
@@ -68,27 +70,16 @@ unfoldable pub turnsOf : ℕ → List ℕ → List Observed
 turnsOf zero xs = []
 turnsOf (suc k) xs = turnOf xs ∷ turnsOf k (drop 8 xs)
 
-unfoldable pub runs : Wait → List ℕ → ℕ → Running
-runs w xs limit =
-    if wholeTurns xs then steps (take limit (turnsOf (length xs / 8) xs)) w
-    else running (Ran·is.Refused Refusal·is.Storage) 0 w
+unfoldable pub runs : Manner → Wait → List ℕ → ℕ → Running
+runs m w xs limit =
+    if wholeTurns xs then steps m (take limit (turnsOf (length xs / 8) xs)) w
+    else uncounted w Refusal·is.Storage
 
 -- "turns taken, wait reached" beside what was told
-pub record Report : Type 0 where
+pub record RunAfter : Type 0 where
   pub told : Told
   pub taken : ℕ
   pub wait : Wait
 
-abbrev pub tellRun : Running → Report
+abbrev pub tellRun : Running → RunAfter
 tellRun r = record { told = ranTold (r .answer); taken = r .taken; wait = r .wait }
-
--- ---- "a dropped wait gives back a held grant"
-
-abbrev pub dropping : Dropped → Wait → Dropping
-dropping answer w = record { answer = answer; wait = w }
-
-unfoldable pub dropped : Wait → Dropping
-dropped w = testedAlone (λ r. dropping (Dropped·is.Refused r) w) (dropping (Dropped·is.GiveBack (if isHolding w then 1 else 0)) endedWait) w
-
-abbrev pub tellDrop : Dropping → After
-tellDrop r = after (droppedTold (r .answer)) (r .wait)

@@ -1,6 +1,6 @@
 -- "Waiting answers": what every manner of waiting shares: bounds, what remains, and retries. Definitions only.
 use Prim.Native.Nat.{ℕ, _+_, _-_, _^_, min}
-use mathlib.Core.Bool.{Bool, true, false, not, _&&_, _||_}
+use mathlib.Core.Bool.{Bool, true, false, _&&_}
 use lib.Dec.{eqb, leb, ltb}
 use Rattle.error.specs.Choice.{if_then_else_}
 use Rattle.error.specs.declared.Refusal.the-variants as Refusal·is
@@ -18,23 +18,24 @@ use Rattle.wait.specs.declared.Started.the-variants as Started·is
 abbrev pub endedWait : Wait
 endedWait = record { phase = 0; limited = 0; deadline = 0; seen = 0; due = 0; zeros = 0 }
 
+-- it looks for a grant, or it holds one
+abbrev pub isLooking : Wait → Bool
+isLooking w = eqb (w .phase) 1
+
 abbrev pub isHolding : Wait → Bool
 isHolding w = eqb (w .phase) 2
 
-abbrev pub hasEnded : Wait → Bool
-hasEnded w = not (eqb (w .phase) 1 || isHolding w)
-
 -- ---- number 1: "No clock, duration, pause, timeout or postponement may exceed 2^62 ns; epochs are free."
 
-abbrev pub isTime : ℕ → Bool
-isTime n = leb n (2 ^ 62)
+abbrev pub timeInBounds : ℕ → Bool
+timeInBounds n = leb n (2 ^ 62)
 
 unfoldable pub turnInBounds : Observed → Bool
-turnInBounds t = isTime (t .clock) && (isTime (t .duration) && (isTime (t .pause) && (isTime (t .«postponed_before») && isTime (t .«postponed_after»))))
+turnInBounds t = timeInBounds (t .clock) && (timeInBounds (t .duration) && (timeInBounds (t .pause) && (timeInBounds (t .«postponed_before») && timeInBounds (t .«postponed_after»))))
 
 -- "A wait handed in with deadline over 2^63, seen over 2^62 or due over 2^63 + seen meets 1."
 unfoldable pub waitInBounds : Wait → Bool
-waitInBounds w = leb (w .deadline) (2 ^ 63) && (isTime (w .seen) && leb (w .due) (2 ^ 63 + w .seen))
+waitInBounds w = leb (w .deadline) (2 ^ 63) && (timeInBounds (w .seen) && leb (w .due) (2 ^ 63 + w .seen))
 
 -- ---- a new wait: it looks, and its deadline is start clock + timeout, or there is none
 
@@ -47,28 +48,28 @@ newWait clock false timeout = looking 0 0
 
 unfoldable pub started : ℕ → Bool → ℕ → Started
 started clock limited timeout =
-    if isTime clock && isTime timeout then Started·is.Made (newWait clock limited timeout) else Started·is.Refused Refusal·is.Time
+    if timeInBounds clock && timeInBounds timeout then Started·is.Made (newWait clock limited timeout) else Started·is.Refused Refusal·is.Time
 
 -- ---- "Remaining = … (the deadline) − clock, not below 0; no timeout means unlimited."
 
 pub data Budget : Type 0 where
   unlimited : Budget
-  left : ℕ → Budget
+  atMost : ℕ → Budget
 
 abbrev pub remaining : Wait → ℕ → Budget
-remaining w clock = if eqb (w .limited) 0 then unlimited else left (w .deadline - clock)
+remaining w clock = if eqb (w .limited) 0 then unlimited else atMost (w .deadline - clock)
 
 abbrev pub exceeds : ℕ → Budget → Bool
 exceeds n unlimited = false
-exceeds n (left r) = ltb r n
+exceeds n (atMost r) = ltb r n
 
 abbrev pub usedUp : Budget → Bool
 usedUp unlimited = false
-usedUp (left r) = eqb r 0
+usedUp (atMost r) = eqb r 0
 
 abbrev pub smaller : ℕ → Budget → ℕ
 smaller n unlimited = n
-smaller n (left r) = min n r
+smaller n (atMost r) = min n r
 
 -- ---- retries
 

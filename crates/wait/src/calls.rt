@@ -1,50 +1,40 @@
 // The calls on a wait: start, one turn, a run of turns, drop. Each tests what it is handed.
 ghost use mathlib.Core.Path.{_≡_};
-ghost use lib.ListN.{length, drop};
-ghost use Prim.Native.Nat.{_≤_, _+_};
 ghost use Rattle.wait.specs.Answers.{startedTold};
-ghost use Rattle.wait.specs.Keep.{turned, tellTurn};
-ghost use Rattle.wait.specs.Run.{runs, tellRun, standing, turnOf, dropped, tellDrop};
+ghost use Rattle.wait.specs.Keep.{keep};
+ghost use Rattle.wait.specs.Manner.{dropped, tellDrop, tellTurn, turned};
+ghost use Rattle.wait.specs.Run.{ranAs, runs, tellRun};
 ghost use Rattle.wait.specs.Turns as Turns;
-ghost use Rattle.wait.specs.Turns.{started, endedWait};
-use crate::Dropped;
+ghost use Rattle.wait.specs.Turns.{started};
 use crate::Dropping;
+use crate::LOOKING;
 use crate::Move;
 use crate::Observed;
 use crate::Ran;
 use crate::Running;
 use crate::Started;
-use crate::Tested;
+use crate::TURN_WIDTH;
+use crate::TurnTest;
 use crate::Turned;
 use crate::Turning;
 use crate::Wait;
-use crate::bounds::has_ended;
-use crate::bounds::is_time;
-use crate::bounds::test;
-use crate::bounds::wait_in_bounds;
+use crate::bounds::time_in_bounds;
+use crate::keep::has_ended;
+use crate::keep::is_holding;
 use crate::keep::moves;
+use crate::keep::test;
+use crate::manner::drop_as;
+use crate::manner::ended_wait;
+use crate::manner::stand;
+use crate::manner::turn_at;
 use error::Refusal;
-
-// A wait that has ended.
-fn ended_wait() -> Wait
-    ensures { λ r. ⌜ r ≡ endedWait ⌝ }
-{
-    Wait {
-        phase: 0,
-        limited: 0,
-        deadline: 0,
-        seen: 0,
-        due: 0,
-        zeros: 0,
-    }
-}
 
 // A wait that looks, and has seen nothing.
 fn looking(limited: u64, deadline: u64) -> Wait
     ensures { λ r. ⌜ r ≡ Turns.looking limited deadline ⌝ }
 {
     Wait {
-        phase: 1,
+        phase: LOOKING,
         limited,
         deadline,
         seen: 0,
@@ -58,10 +48,10 @@ fn looking(limited: u64, deadline: u64) -> Wait
 pub fn start(clock: u64, limited: bool, timeout: u64) -> Started
     ensures { λ r. ⌜ startedTold r ≡ startedTold (started clock limited timeout) ⌝ }
 {
-    if !is_time(clock) {
+    if !time_in_bounds(clock) {
         return Started::Refused(Refusal::Time);
     }
-    if !is_time(timeout) {
+    if !time_in_bounds(timeout) {
         return Started::Refused(Refusal::Time);
     }
     if !limited {
@@ -73,10 +63,10 @@ pub fn start(clock: u64, limited: bool, timeout: u64) -> Started
 // One turn of a wait. A refused one leaves the wait; one that ends it leaves an ended wait.
 // Ruled out: a deadline before the first look; a give-back on a plain retry.
 pub fn turn(wait: Wait, turn: Observed) -> Turning
-    ensures { λ r. ⌜ tellTurn r ≡ tellTurn (turned wait turn) ⌝ }
+    ensures { λ r. ⌜ tellTurn r ≡ tellTurn (turned keep wait turn) ⌝ }
 {
     let verdict = test(wait, turn);
-    if let Tested::Fails(r) = verdict {
+    if let TurnTest::Fails(r) = verdict {
         return Turning {
             answer: Turned::Refused(r),
             wait,
@@ -95,67 +85,35 @@ pub fn turn(wait: Wait, turn: Observed) -> Turning
     }
 }
 
-// The eight numbers from `at` on.
-fn turn_at(turns: &[u64], at: usize) -> Observed
-    requires { ⌜ at + 8 ≤ length (now turns) ⌝ }
-    ensures { λ r. ⌜ r ≡ turnOf (drop at (now (turns .entry))) ⌝ }
+fn ran_as(answer: Ran, taken: u64, wait: Wait) -> Running
+    ensures { λ r. ⌜ r ≡ ranAs answer taken wait ⌝ }
 {
-    Observed {
-        clock: turns[at],
-        epoch_before: turns[at + 1],
-        epoch_after: turns[at + 2],
-        kind: turns[at + 3],
-        duration: turns[at + 4],
-        pause: turns[at + 5],
-        postponed_before: turns[at + 6],
-        postponed_after: turns[at + 7],
+    Running {
+        answer,
+        taken,
+        wait,
     }
-}
-
-// What a run is told when no turn is left or its limit is reached.
-fn stand(wait: Wait) -> Ran
-    ensures { λ r. ⌜ r ≡ standing wait ⌝ }
-{
-    if has_ended(wait) {
-        return Ran::Refused(Refusal::Turn);
-    }
-    if !wait_in_bounds(wait) {
-        return Ran::Refused(Refusal::Time);
-    }
-    Ran::Unfinished
 }
 
 // Takes turns until the wait ends, one is refused, or the limit or the turns are used up. A turn past the limit is not read.
 // Ruled out: a count that isn't that of the rules; a run that reads past the end.
 pub fn run(wait: Wait, turns: &[u64], limit: u64) -> Running
-    ensures { λ r. ⌜ tellRun r ≡ tellRun (runs wait (now (turns .entry)) limit) ⌝ }
+    ensures { λ r. ⌜ tellRun r ≡ tellRun (runs keep wait (now (turns .entry)) limit) ⌝ }
 {
-    if turns.len() % 8 != 0 {
-        return Running {
-            answer: Ran::Refused(Refusal::Storage),
-            taken: 0,
-            wait,
-        };
+    if turns.len() % TURN_WIDTH != 0 {
+        return ran_as(Ran::Refused(Refusal::Storage), 0, wait);
     }
     let mut at: usize = 0;
     let mut taken: u64 = 0;
     let mut reached = wait;
     while at < turns.len() {
         if taken >= limit {
-            return Running {
-                answer: stand(reached),
-                taken,
-                wait: reached,
-            };
+            return ran_as(stand(has_ended(reached), reached), taken, reached);
         }
         let turn = turn_at(turns, at);
         let verdict = test(reached, turn);
-        if let Tested::Fails(r) = verdict {
-            return Running {
-                answer: Ran::Refused(r),
-                taken,
-                wait: reached,
-            };
+        if let TurnTest::Fails(r) = verdict {
+            return ran_as(Ran::Refused(r), taken, reached);
         }
         let step = moves(reached, turn);
         match step {
@@ -163,48 +121,19 @@ pub fn run(wait: Wait, turns: &[u64], limit: u64) -> Running
                 reached = next;
             }
             Move::Ends(ending) => {
-                return Running {
-                    answer: Ran::Ends(ending),
-                    taken: taken + 1,
-                    wait: ended_wait(),
-                };
+                return ran_as(Ran::Ends(ending), taken + 1, ended_wait());
             }
         }
-        at += 8;
+        at += TURN_WIDTH;
         taken += 1;
     }
-    Running {
-        answer: stand(reached),
-        taken,
-        wait: reached,
-    }
+    ran_as(stand(has_ended(reached), reached), taken, reached)
 }
 
 // Ends a wait before it has ended (`Drop` of the Rust's `Release`): a held grant is to be given back.
 // Ruled out: one that keeps a held grant; one that gives back for a wait that holds none.
 pub fn drop_wait(wait: Wait) -> Dropping
-    ensures { λ r. ⌜ tellDrop r ≡ tellDrop (dropped wait) ⌝ }
+    ensures { λ r. ⌜ tellDrop r ≡ tellDrop (dropped keep wait) ⌝ }
 {
-    if has_ended(wait) {
-        return Dropping {
-            answer: Dropped::Refused(Refusal::Turn),
-            wait,
-        };
-    }
-    if !wait_in_bounds(wait) {
-        return Dropping {
-            answer: Dropped::Refused(Refusal::Time),
-            wait,
-        };
-    }
-    if wait.phase == 2 {
-        return Dropping {
-            answer: Dropped::GiveBack(1),
-            wait: ended_wait(),
-        };
-    }
-    Dropping {
-        answer: Dropped::GiveBack(0),
-        wait: ended_wait(),
-    }
+    drop_as(has_ended(wait), is_holding(wait), wait)
 }

@@ -2,28 +2,67 @@
 ghost use mathlib.Core.Path.{_≡_};
 ghost use mathlib.Core.Bool.{true};
 ghost use Rattle.wait.specs.Keep as Keep;
-ghost use Rattle.wait.specs.Keep.{checks, grants, holdsOn};
-ghost use Rattle.wait.specs.Turns.{turnInBounds, waitInBounds};
+ghost use Rattle.wait.specs.Keep.{checks, grants, hasEnded, holdsOn, isKnown, keep};
+ghost use Rattle.wait.specs.Manner.{tested};
+ghost use Rattle.wait.specs.Turns.{isHolding, turnInBounds, waitInBounds};
+ghost use Rattle.wait.specs.declared.TurnTest.the-variants.{Passes, Fails};
 use crate::Act;
 use crate::Ending;
+use crate::GRANTED;
+use crate::HOLDING;
+use crate::LOOKING;
 use crate::Move;
+use crate::NEVER;
 use crate::Observed;
+use crate::RETRY;
+use crate::TurnTest;
 use crate::Wait;
+use crate::manner::in_order;
 use crate::retries::remaining;
 use crate::retries::retry;
 use crate::retries::sleeping;
 
-fn holding(due: u64, seen: u64, wait: Wait) -> Wait
+pub(crate) fn is_holding(wait: Wait) -> bool
+    ensures { λ r. ⌜ r ≡ isHolding wait ⌝ }
+{
+    wait.phase == HOLDING
+}
+
+pub(crate) fn has_ended(wait: Wait) -> bool
+    ensures { λ r. ⌜ r ≡ hasEnded wait ⌝ }
+{
+    if wait.phase == LOOKING {
+        return false;
+    }
+    !is_holding(wait)
+}
+
+fn is_known(kind: u64) -> bool
+    ensures { λ r. ⌜ r ≡ isKnown kind ⌝ }
+{
+    if kind == GRANTED {
+        return true;
+    }
+    if kind == RETRY {
+        return true;
+    }
+    kind == NEVER
+}
+
+// The tests of a turn.
+pub(crate) fn test(wait: Wait, turn: Observed) -> TurnTest
+    ensures { λ r. ⌜ r ≡ tested keep Fails Passes wait turn ⌝ }
+{
+    in_order(has_ended(wait), is_known(turn.kind), wait, turn)
+}
+
+fn holding(due: u64, seen: u64, mut wait: Wait) -> Wait
     ensures { λ r. ⌜ r ≡ Keep.holding due seen wait ⌝ }
 {
-    Wait {
-        phase: 2,
-        limited: wait.limited,
-        deadline: wait.deadline,
-        seen,
-        due,
-        zeros: wait.zeros,
-    }
+    wait.phase = HOLDING;
+    wait.seen = seen;
+    wait.due = due;
+    wait
 }
 
 // The wait with what the schedule was postponed since it last saw.
@@ -85,13 +124,13 @@ pub(crate) fn moves(wait: Wait, turn: Observed) -> Move
     requires { ⌜ waitInBounds wait ≡ true ⌝ }
     ensures { λ r. ⌜ r ≡ Keep.moves wait turn ⌝ }
 {
-    if wait.phase == 2 {
+    if is_holding(wait) {
         return check(wait, turn);
     }
-    if turn.kind == 1 {
+    if turn.kind == GRANTED {
         return grant(wait, turn);
     }
-    if turn.kind == 2 {
+    if turn.kind == RETRY {
         return retry(wait, turn);
     }
     Move::Ends(Ending::Never)

@@ -3,6 +3,7 @@
 mod bounds;
 mod calls;
 mod keep;
+mod manner;
 mod retries;
 
 pub use calls::drop_wait;
@@ -11,10 +12,23 @@ pub use calls::start;
 pub use calls::turn;
 use error::Refusal;
 
+// The phases of a wait. Any other number is an ended wait too.
+pub const ENDED: u64 = 0;
+
+pub const LOOKING: u64 = 1;
+
+pub const HOLDING: u64 = 2;
+
+// What no time of a turn or a start exceeds: 2^62 ns.
+pub const LONGEST: u64 = 0x4000_0000_0000_0000;
+
+// What no deadline exceeds, and a due only by what was seen: 2^63 ns.
+pub const LATEST: u64 = 0x8000_0000_0000_0000;
+
 // A wait between two turns. Made of any numbers: each call tests them.
 #[repr(C)]
 pub struct Wait {
-    // 1 looking, 2 holding a grant, any other number: ended
+    // looking, holding a grant, or ended
     pub phase: u64,
     // 0: no deadline
     pub limited: u64,
@@ -27,13 +41,23 @@ pub struct Wait {
     pub zeros: u64,
 }
 
+// The kinds of a reply.
+pub const GRANTED: u64 = 1;
+
+pub const RETRY: u64 = 2;
+
+pub const NEVER: u64 = 3;
+
+// How many numbers a turn is.
+pub const TURN_WIDTH: usize = 8;
+
 // What the host read for a turn; of each pair the first was read before the limiter was asked.
 #[repr(C)]
 pub struct Observed {
     pub clock: u64,
     pub epoch_before: u64,
     pub epoch_after: u64,
-    // 1 granted, 2 retry, 3 never
+    // of the limiter's reply
     pub kind: u64,
     pub duration: u64,
     pub pause: u64,
@@ -64,7 +88,7 @@ pub enum Move {
 }
 
 // Whether a turn may be taken, or why not.
-pub enum Tested {
+pub enum TurnTest {
     Passes,
     Fails(Refusal),
 }

@@ -23,8 +23,7 @@ use Rattle.admission.proofs.Admitting.{admitted-shed, admitted-granted}
 use Rattle.breaker.specs.Record.{State, Closed, Open, settings, state, stored, sound}
 use Rattle.breaker.specs.Answers.{ticketValues, delayValues}
 use Rattle.breaker.specs.Rules.{Admitted, granted, shed, admit, admitAs, viaTrait, sheds, stillAdmits, finish, aborting}
-use Rattle.breaker.specs.Calls as Breaker·calls
-use Rattle.breaker.specs.Calls.{kept, answered, asked, guarded}
+use Rattle.breaker.specs.Calls.{After, after, kept, answered, asked, guarded}
 use Rattle.breaker.proofs.Record.{stored-state, padded-state}
 use Rattle.breaker.proofs.Guard.{guarded-refused, guarded-done, asked-done, unchanged}
 use Rattle.steps.proofs.Aborting.{given-back}
@@ -47,21 +46,19 @@ use Rattle.wait.specs.declared.Dropping.{Dropping}
 use Rattle.wait.specs.Answers.{actValues, startedTold, waitValues}
 use Rattle.wait.specs.Turns.{started}
 use Rattle.wait.proofs.OneToOne.{started-one}
-use Rattle.wait.specs.Keep.{turned}
-use Rattle.wait.specs.Run.{runs, dropped}
+use Rattle.wait.specs.Manner.{turned, dropped}
+use Rattle.wait.specs.Run.{runs}
+use Rattle.wait.specs.Keep.{keep}
 use Rattle.waiting.specs.declared.Pending.{Pending}
-use Rattle.waiting.specs.declared.Running as Waiting·running
-use Rattle.waiting.specs.declared.Course.the-variants.{Refused}
-use Rattle.waiting.specs.Answers.{courseTold}
 use Rattle.waiting.specs.Rules.{afterAbort, judged, completes}
-use Rattle.waiting.specs.Calls.{After, after, pending, beside, begins, startedTo, starting, turnedTo, turning, Report, report, ranTo, running, droppedTo, leaving}
+use Rattle.waiting.specs.Calls.{PendingAfter, pendingAfter, pending, beside, begins, startedTo, starting, turnedTo, turning, PendingRun, pendingRun, ranTo, running, droppedTo, leaving}
 
 -- ---- what a sound breaker's calls come to
 
 -- an abort, beside whatever is told
 pub aborted : (told : Told) (t : Ticket) (b next : Breaker) (s : List ℕ) → sound b s ≡ true
-    → ((c : Config) (st : State) (reading : ℕ) → b ≡ stored c st → kept c (finish (settings c) reading (aborting t false) st) ≡ Breaker·calls.after nothing next (padded (st .list)))
-    → Breaker·calls.after told next s ≡ kept (b .config) (afterAbort told t (settings (b .config)) (state b s))
+    → ((c : Config) (st : State) (reading : ℕ) → b ≡ stored c st → kept c (finish (settings c) reading (aborting t false) st) ≡ after nothing next (padded (st .list)))
+    → after told next s ≡ kept (b .config) (afterAbort told t (settings (b .config)) (state b s))
 aborted told t b next s ok h = given-back told (b .config) 0 t false (state b s) next s (h (b .config) (state b s) 0 (stored-state b s ok)) (padded-state b s ok)
 
 -- ---- completion, by the verdict
@@ -79,10 +76,10 @@ module _ (reading : ℕ) (t : Ticket) (b : Breaker) (s : List ℕ) (ok : sound b
   verdict told e = e ∙ sym (asked-done (λ c st. stillAdmits reading t st) b s ok)
 
   pub still-admits : tell 0 [] ≡ stillAdmits reading t (state b s)
-      → Breaker·calls.after (tell 0 (0 ∷ ticketValues t)) b s ≡ kept (b .config) (judged (stillAdmits reading t (state b s)) t (settings (b .config)) (state b s))
+      → after (tell 0 (0 ∷ ticketValues t)) b s ≡ kept (b .config) (judged (stillAdmits reading t (state b s)) t (settings (b .config)) (state b s))
   still-admits e = unchanged (tell 0 (0 ∷ ticketValues t)) b s ok ∙ ap (λ (v : Told). kept (b .config) (judged v t (settings (b .config)) (state b s))) e
 
-  pub sheds-now : (d : Delay) (a : Breaker·calls.After) → tell 6 (delayValues d) ≡ stillAdmits reading t (state b s)
+  pub sheds-now : (d : Delay) (a : After) → tell 6 (delayValues d) ≡ stillAdmits reading t (state b s)
       → a ≡ kept (b .config) (afterAbort (tell 6 (delayValues d ++ (1 ∷ []))) t (settings (b .config)) (state b s))
       → a ≡ kept (b .config) (judged (stillAdmits reading t (state b s)) t (settings (b .config)) (state b s))
   sheds-now d a e q = q ∙ ap (λ (v : Told). kept (b .config) (judged v t (settings (b .config)) (state b s))) e
@@ -97,131 +94,125 @@ module _ (reading : ℕ) (t : Ticket) (b : Breaker) (s : List ℕ) (ok : sound b
 -- what an admission told, and what the rule says
 module _ (b : Breaker) (s : List ℕ) (p : Pending) (w : Wait) where
   granted-is : (x : Admitted) (t : Ticket) (next : Breaker) (s' : List ℕ)
-      → Breaker·calls.after (tell 0 (ticketValues t)) next s' ≡ kept (b .config) (answered (viaTrait false x) (state b s))
-      → after (tell 0 []) next s' (pending w t) ≡ begins w x b s p
+      → after (tell 0 (ticketValues t)) next s' ≡ kept (b .config) (answered (viaTrait false x) (state b s))
+      → pendingAfter (tell 0 []) next s' (pending w t) ≡ begins w x b s p
   granted-is (granted u st) t next s' e =
-      ap (λ (v : Ticket). after (tell 0 []) next s' (pending w v)) (sym (ticket-back t) ∙ ap (λ (a : Breaker·calls.After). ticketIn (a .told .values)) e ∙ ticket-back u) ∙ ap (λ (a : Breaker·calls.After). after (tell 0 []) (a .breaker) (a .places) (pending w u)) e
-  granted-is (shed ms) t next s' e = absurd (false≢true (sym (ap (λ (a : Breaker·calls.After). eqb (a .told .number) 0) e)))
+      ap (λ (v : Ticket). pendingAfter (tell 0 []) next s' (pending w v)) (sym (ticket-back t) ∙ ap (λ (a : After). ticketIn (a .told .values)) e ∙ ticket-back u) ∙ ap (λ (a : After). pendingAfter (tell 0 []) (a .breaker) (a .places) (pending w u)) e
+  granted-is (shed ms) t next s' e = absurd (false≢true (sym (ap (λ (a : After). eqb (a .told .number) 0) e)))
 
   shed-is : sound b s ≡ true → (x : Admitted) (d : Delay) (next : Breaker) (s' : List ℕ)
-      → Breaker·calls.after (tell 6 (delayValues d)) next s' ≡ kept (b .config) (answered (viaTrait false x) (state b s))
-      → after (tell 6 (delayValues d)) next s' p ≡ begins w x b s p
-  shed-is ok (granted u st) d next s' e = absurd (false≢true (ap (λ (a : Breaker·calls.After). eqb (a .told .number) 0) e))
+      → after (tell 6 (delayValues d)) next s' ≡ kept (b .config) (answered (viaTrait false x) (state b s))
+      → pendingAfter (tell 6 (delayValues d)) next s' p ≡ begins w x b s p
+  shed-is ok (granted u st) d next s' e = absurd (false≢true (ap (λ (a : After). eqb (a .told .number) 0) e))
   shed-is ok (shed ms) d next s' e = ap (beside p) (e ∙ sym (unchanged (sheds ms) b s ok))
 
 module _ (reading clock : ℕ) (limited : Bool) (timeout : ℕ) (b : Breaker) (s : List ℕ) (p : Pending) where
-  pub start-tested : (r : Refusal) → Tested·is.Refused r ≡ guarded Tested·is.Refused Tested·is.Sound b s → after (refused r) b s p ≡ starting reading clock limited timeout b s p
+  pub start-tested : (r : Refusal) → Tested·is.Refused r ≡ guarded Tested·is.Refused Tested·is.Sound b s → pendingAfter (refused r) b s p ≡ starting reading clock limited timeout b s p
   unfolding starting
-  start-tested r e = guarded-refused (λ r. after (refused r) b s p) _ b s r e
+  start-tested r e = guarded-refused (λ r. pendingAfter (refused r) b s p) _ b s r e
 
   module _ (ok : sound b s ≡ true) where
     -- what the wait's own start came to
     begun : (x : Started) → startedTold x ≡ startedTold (started clock limited timeout) → startedTo x reading b s p ≡ starting reading clock limited timeout b s p
     unfolding starting
-    begun x e = ap (λ (y : Started). startedTo y reading b s p) (started-one x (started clock limited timeout) e) ∙ guarded-done (λ r. after (refused r) b s p) _ b s ok
+    begun x e = ap (λ (y : Started). startedTo y reading b s p) (started-one x (started clock limited timeout) e) ∙ guarded-done (λ r. pendingAfter (refused r) b s p) _ b s ok
 
-    pub start-refused : (r : Refusal) → refused r ≡ startedTold (started clock limited timeout) → after (refused r) b s p ≡ starting reading clock limited timeout b s p
+    pub start-refused : (r : Refusal) → refused r ≡ startedTold (started clock limited timeout) → pendingAfter (refused r) b s p ≡ starting reading clock limited timeout b s p
     start-refused r e = begun (Started·is.Refused r) e
 
     -- a wait that was made, and what the admission came to
     module _ (w : Wait) (made : tell 0 (waitValues w) ≡ startedTold (started clock limited timeout)) where
       pub start-granted : (t : Ticket) (next : Breaker) → Granted t next ≡ entry (b .config) (admitAs false (settings (b .config)) reading (state b s))
-          → after (tell 0 []) next s (pending w t) ≡ starting reading clock limited timeout b s p
+          → pendingAfter (tell 0 []) next s (pending w t) ≡ starting reading clock limited timeout b s p
       start-granted t next e = granted-is b s p w (admit (settings (b .config)) reading (state b s)) t next s (admitted-granted reading b s ok false t next e) ∙ begun (Started·is.Made w) made
 
       pub start-shed : (d : Delay) → Shed d ≡ entry (b .config) (admitAs false (settings (b .config)) reading (state b s))
-          → after (tell 6 (delayValues d)) b s p ≡ starting reading clock limited timeout b s p
+          → pendingAfter (tell 6 (delayValues d)) b s p ≡ starting reading clock limited timeout b s p
       start-shed d e = shed-is b s p w ok (admit (settings (b .config)) reading (state b s)) d b s (admitted-shed reading b s ok false d e) ∙ begun (Started·is.Made w) made
 
 -- ---- a turn, a run, a drop
 
 module _ (t : Observed) (reading capacity : ℕ) (b : Breaker) (s : List ℕ) (p : Pending) where
-  pub turn-tested : (r : Refusal) → Tested·is.Refused r ≡ guarded Tested·is.Refused Tested·is.Sound b s → after (refused r) b s p ≡ turning t reading capacity b s p
+  pub turn-tested : (r : Refusal) → Tested·is.Refused r ≡ guarded Tested·is.Refused Tested·is.Sound b s → pendingAfter (refused r) b s p ≡ turning t reading capacity b s p
   unfolding turning
-  turn-tested r e = guarded-refused (λ r. after (refused r) b s p) _ b s r e
+  turn-tested r e = guarded-refused (λ r. pendingAfter (refused r) b s p) _ b s r e
 
-  pub turn-is : sound b s ≡ true → (x : Turning) → x ≡ turned (p .wait) t → turnedTo (x .answer) (x .wait) reading capacity b s p ≡ turning t reading capacity b s p
+  pub turn-is : sound b s ≡ true → (x : Turning) → x ≡ turned keep (p .wait) t → turnedTo (x .answer) (x .wait) reading capacity b s p ≡ turning t reading capacity b s p
   unfolding turning
   turn-is ok x e =
-      ap (λ (y : Turning). turnedTo (y .answer) (y .wait) reading capacity b s p) e ∙ guarded-done (λ r. after (refused r) b s p) _ b s ok
+      ap (λ (y : Turning). turnedTo (y .answer) (y .wait) reading capacity b s p) e ∙ guarded-done (λ r. pendingAfter (refused r) b s p) _ b s ok
 
   -- what the wait's own turn x answered, with the wait q that is left
-  module _ (ok : sound b s ≡ true) (x : Turning) (is : x ≡ turned (p .wait) t) (q : Pending) (left : q ≡ pending (x .wait) (p .ticket)) where
-    pub turn-next : (act : Act) → x .answer ≡ Turned·is.Next act → after (tell 0 (actValues act)) b s q ≡ turning t reading capacity b s p
+  module _ (ok : sound b s ≡ true) (x : Turning) (is : x ≡ turned keep (p .wait) t) (q : Pending) (left : q ≡ pending (x .wait) (p .ticket)) where
+    pub turn-next : (act : Act) → x .answer ≡ Turned·is.Next act → pendingAfter (tell 0 (actValues act)) b s q ≡ turning t reading capacity b s p
     turn-next act e =
-        ap (after (tell 0 (actValues act)) b s) left ∙ ap (λ (a : Turned). turnedTo a (x .wait) reading capacity b s p) (sym e) ∙ turn-is ok x is
+        ap (pendingAfter (tell 0 (actValues act)) b s) left ∙ ap (λ (a : Turned). turnedTo a (x .wait) reading capacity b s p) (sym e) ∙ turn-is ok x is
 
-    pub turn-refused : (r : Refusal) → x .answer ≡ Turned·is.Refused r → after (refused r) b s q ≡ turning t reading capacity b s p
-    turn-refused r e = ap (after (refused r) b s) left ∙ ap (λ (a : Turned). turnedTo a (x .wait) reading capacity b s p) (sym e) ∙ turn-is ok x is
+    pub turn-refused : (r : Refusal) → x .answer ≡ Turned·is.Refused r → pendingAfter (refused r) b s q ≡ turning t reading capacity b s p
+    turn-refused r e = ap (pendingAfter (refused r) b s) left ∙ ap (λ (a : Turned). turnedTo a (x .wait) reading capacity b s p) (sym e) ∙ turn-is ok x is
 
-    pub turn-ends : (e : Ending) (a : Breaker·calls.After) → x .answer ≡ Turned·is.Ends e
+    pub turn-ends : (e : Ending) (a : After) → x .answer ≡ Turned·is.Ends e
         → a ≡ kept (b .config) (completes e reading capacity (p .ticket) (settings (b .config)) (state b s)) → beside q a ≡ turning t reading capacity b s p
     turn-ends e a h d =
         ap (λ (y : Pending). beside y a) left ∙ ap (beside (pending (x .wait) (p .ticket))) d ∙ ap (λ (y : Turned). turnedTo y (x .wait) reading capacity b s p) (sym h) ∙ turn-is ok x is
 
 module _ (turns : List ℕ) (limit reading capacity : ℕ) (b : Breaker) (s : List ℕ) (p : Pending) where
-  pub run-turns : (length turns % 8 ≡ 0 → ⊥) → report (after (refused Storage) b s p) 0 ≡ running turns limit reading capacity b s p
+  pub run-turns : (length turns % 8 ≡ 0 → ⊥) → pendingRun (pendingAfter (refused Storage) b s p) 0 ≡ running turns limit reading capacity b s p
   unfolding running
   run-turns n = simp (ne-eqb _ _ n)
 
-  whole : length turns % 8 ≡ 0 → (x : Report)
-      → x ≡ guarded (λ r. report (after (refused r) b s p) 0) (report (ranTo (runs (p .wait) turns limit .answer) (runs (p .wait) turns limit .wait) reading capacity b s p) (runs (p .wait) turns limit .taken)) b s
+  whole : length turns % 8 ≡ 0 → (x : PendingRun)
+      → x ≡ guarded (λ r. pendingRun (pendingAfter (refused r) b s p) 0) (pendingRun (ranTo (runs keep (p .wait) turns limit .answer) (runs keep (p .wait) turns limit .wait) reading capacity b s p) (runs keep (p .wait) turns limit .taken)) b s
       → x ≡ running turns limit reading capacity b s p
   unfolding running
   whole m x e = rw (eq-eqb _ _ m) e
 
   pub run-tested : length turns % 8 ≡ 0 → (r : Refusal) → Tested·is.Refused r ≡ guarded Tested·is.Refused Tested·is.Sound b s
-      → report (after (refused r) b s p) 0 ≡ running turns limit reading capacity b s p
-  run-tested m r e = whole m _ (guarded-refused (λ r. report (after (refused r) b s p) 0) _ b s r e)
+      → pendingRun (pendingAfter (refused r) b s p) 0 ≡ running turns limit reading capacity b s p
+  run-tested m r e = whole m _ (guarded-refused (λ r. pendingRun (pendingAfter (refused r) b s p) 0) _ b s r e)
 
-  pub run-is : length turns % 8 ≡ 0 → sound b s ≡ true → (x : Running) → x ≡ runs (p .wait) turns limit
-      → report (ranTo (x .answer) (x .wait) reading capacity b s p) (x .taken) ≡ running turns limit reading capacity b s p
+  pub run-is : length turns % 8 ≡ 0 → sound b s ≡ true → (x : Running) → x ≡ runs keep (p .wait) turns limit
+      → pendingRun (ranTo (x .answer) (x .wait) reading capacity b s p) (x .taken) ≡ running turns limit reading capacity b s p
   run-is m ok x e =
-      whole m _ (ap (λ (y : Running). report (ranTo (y .answer) (y .wait) reading capacity b s p) (y .taken)) e ∙ guarded-done (λ r. report (after (refused r) b s p) 0) _ b s ok)
+      whole m _ (ap (λ (y : Running). pendingRun (ranTo (y .answer) (y .wait) reading capacity b s p) (y .taken)) e ∙ guarded-done (λ r. pendingRun (pendingAfter (refused r) b s p) 0) _ b s ok)
 
-  module _ (m : length turns % 8 ≡ 0) (ok : sound b s ≡ true) (x : Running) (is : x ≡ runs (p .wait) turns limit) (q : Pending) (left : q ≡ pending (x .wait) (p .ticket)) where
+  module _ (m : length turns % 8 ≡ 0) (ok : sound b s ≡ true) (x : Running) (is : x ≡ runs keep (p .wait) turns limit) (q : Pending) (left : q ≡ pending (x .wait) (p .ticket)) where
     -- the run's answer a, with the same turns taken
-    ran-is : (a : Ran) → x .answer ≡ a → report (ranTo a (x .wait) reading capacity b s p) (x .taken) ≡ running turns limit reading capacity b s p
-    ran-is a e = ap (λ (y : Ran). report (ranTo y (x .wait) reading capacity b s p) (x .taken)) (sym e) ∙ run-is m ok x is
+    ran-is : (a : Ran) → x .answer ≡ a → pendingRun (ranTo a (x .wait) reading capacity b s p) (x .taken) ≡ running turns limit reading capacity b s p
+    ran-is a e = ap (λ (y : Ran). pendingRun (ranTo y (x .wait) reading capacity b s p) (x .taken)) (sym e) ∙ run-is m ok x is
 
-    pub run-unfinished : x .answer ≡ Ran·is.Unfinished → report (after (tell 10 []) b s q) (x .taken) ≡ running turns limit reading capacity b s p
-    run-unfinished e = ap (λ (y : Pending). report (after (tell 10 []) b s y) (x .taken)) left ∙ ran-is Ran·is.Unfinished e
+    pub run-unfinished : x .answer ≡ Ran·is.Unfinished → pendingRun (pendingAfter (tell 10 []) b s q) (x .taken) ≡ running turns limit reading capacity b s p
+    run-unfinished e = ap (λ (y : Pending). pendingRun (pendingAfter (tell 10 []) b s y) (x .taken)) left ∙ ran-is Ran·is.Unfinished e
 
-    pub run-refused : (r : Refusal) → x .answer ≡ Ran·is.Refused r → report (after (refused r) b s q) (x .taken) ≡ running turns limit reading capacity b s p
-    run-refused r e = ap (λ (y : Pending). report (after (refused r) b s y) (x .taken)) left ∙ ran-is (Ran·is.Refused r) e
+    pub run-refused : (r : Refusal) → x .answer ≡ Ran·is.Refused r → pendingRun (pendingAfter (refused r) b s q) (x .taken) ≡ running turns limit reading capacity b s p
+    run-refused r e = ap (λ (y : Pending). pendingRun (pendingAfter (refused r) b s y) (x .taken)) left ∙ ran-is (Ran·is.Refused r) e
 
-    pub run-ends : (e : Ending) (a : Breaker·calls.After) → x .answer ≡ Ran·is.Ends e
-        → a ≡ kept (b .config) (completes e reading capacity (p .ticket) (settings (b .config)) (state b s)) → report (beside q a) (x .taken) ≡ running turns limit reading capacity b s p
+    pub run-ends : (e : Ending) (a : After) → x .answer ≡ Ran·is.Ends e
+        → a ≡ kept (b .config) (completes e reading capacity (p .ticket) (settings (b .config)) (state b s)) → pendingRun (beside q a) (x .taken) ≡ running turns limit reading capacity b s p
     run-ends e a h d =
-        ap (λ (y : Pending). report (beside y a) (x .taken)) left ∙ ap (λ (y : Breaker·calls.After). report (beside (pending (x .wait) (p .ticket)) y) (x .taken)) d ∙ ran-is (Ran·is.Ends e) h
+        ap (λ (y : Pending). pendingRun (beside y a) (x .taken)) left ∙ ap (λ (y : After). pendingRun (beside (pending (x .wait) (p .ticket)) y) (x .taken)) d ∙ ran-is (Ran·is.Ends e) h
 
 module _ (b : Breaker) (s : List ℕ) (p : Pending) where
-  pub drop-tested : (r : Refusal) → Tested·is.Refused r ≡ guarded Tested·is.Refused Tested·is.Sound b s → after (refused r) b s p ≡ leaving b s p
+  pub drop-tested : (r : Refusal) → Tested·is.Refused r ≡ guarded Tested·is.Refused Tested·is.Sound b s → pendingAfter (refused r) b s p ≡ leaving b s p
   unfolding leaving
-  drop-tested r e = guarded-refused (λ r. after (refused r) b s p) _ b s r e
+  drop-tested r e = guarded-refused (λ r. pendingAfter (refused r) b s p) _ b s r e
 
-  pub drop-is : sound b s ≡ true → (x : Dropping) → x ≡ dropped (p .wait) → droppedTo (x .answer) (x .wait) b s p ≡ leaving b s p
+  pub drop-is : sound b s ≡ true → (x : Dropping) → x ≡ dropped keep (p .wait) → droppedTo (x .answer) (x .wait) b s p ≡ leaving b s p
   unfolding leaving
-  drop-is ok x e = ap (λ (y : Dropping). droppedTo (y .answer) (y .wait) b s p) e ∙ guarded-done (λ r. after (refused r) b s p) _ b s ok
+  drop-is ok x e = ap (λ (y : Dropping). droppedTo (y .answer) (y .wait) b s p) e ∙ guarded-done (λ r. pendingAfter (refused r) b s p) _ b s ok
 
-  module _ (ok : sound b s ≡ true) (x : Dropping) (is : x ≡ dropped (p .wait)) (q : Pending) (left : q ≡ pending (x .wait) (p .ticket)) where
-    pub drop-refused : (r : Refusal) → x .answer ≡ Dropped·is.Refused r → after (refused r) b s q ≡ leaving b s p
+  module _ (ok : sound b s ≡ true) (x : Dropping) (is : x ≡ dropped keep (p .wait)) (q : Pending) (left : q ≡ pending (x .wait) (p .ticket)) where
+    pub drop-refused : (r : Refusal) → x .answer ≡ Dropped·is.Refused r → pendingAfter (refused r) b s q ≡ leaving b s p
     drop-refused r e =
-        ap (after (refused r) b s) left
+        ap (pendingAfter (refused r) b s) left
         ∙ ap (λ (y : Dropped). droppedTo y (x .wait) b s p) (sym e)
         ∙ drop-is ok x is
 
     pub drop-gives : (n : ℕ) (next : Breaker) → x .answer ≡ Dropped·is.GiveBack n
-        → Breaker·calls.after (tell 0 (n ∷ [])) next s ≡ kept (b .config) (afterAbort (tell 0 (n ∷ [])) (p .ticket) (settings (b .config)) (state b s))
-        → after (tell 0 (n ∷ [])) next s q ≡ leaving b s p
+        → after (tell 0 (n ∷ [])) next s ≡ kept (b .config) (afterAbort (tell 0 (n ∷ [])) (p .ticket) (settings (b .config)) (state b s))
+        → pendingAfter (tell 0 (n ∷ [])) next s q ≡ leaving b s p
     drop-gives n next e d =
-        ap (after (tell 0 (n ∷ [])) next s) left
+        ap (pendingAfter (tell 0 (n ∷ [])) next s) left
         ∙ ap (beside (pending (x .wait) (p .ticket))) d
         ∙ ap (λ (y : Dropped). droppedTo y (x .wait) b s p) (sym e)
         ∙ drop-is ok x is
-
--- a run that takes no turn
-pub not-run-is : (x : Waiting·running.Running) (r : Refusal) (b : Breaker) (p : Pending) (s : List ℕ)
-    → (x .answer .course ≡ Refused r) × (x .answer .taken ≡ 0) × (x .breaker ≡ b) × (x .pending ≡ p)
-    → report (after (courseTold (x .answer .course)) (x .breaker) s (x .pending)) (x .answer .taken) ≡ report (after (refused r) b s p) 0
-not-run-is x r b p s e = rw (e .0, e .1, e .2, e .3) refl

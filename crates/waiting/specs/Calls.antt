@@ -1,16 +1,16 @@
 -- The entry points of a wait before a breaker: each tests 3 and 4, then what the wait itself refuses (11, then 1), and then does what the rules say. Definitions only.
 use Prim.Native.Nat.{ℕ}
 use mathlib.Core.Bool.{Bool}
-use mathlib.Core.List.{List, [], _∷_}
+use mathlib.Core.List.{List}
 use Rattle.error.specs.Choice.{if_then_else_}
-use Rattle.error.specs.Told.{Told, tell, refused}
+use Rattle.error.specs.Told.{Told, refused}
 use Rattle.error.specs.declared.Refusal.the-variants.{Storage}
 use Rattle.breaker.specs.declared.Breaker.{Breaker}
 use Rattle.breaker.specs.declared.Ticket.{Ticket}
 use Rattle.breaker.specs.Record.{settings, state}
-use Rattle.breaker.specs.Rules.{Admitted, granted, shed, admit, done, sheds}
-use Rattle.breaker.specs.Calls as Breaker·calls
-use Rattle.breaker.specs.Calls.{guarded, kept}
+use Rattle.breaker.specs.Answers.{delayOf}
+use Rattle.breaker.specs.Rules.{Admitted, granted, shed, admit, outcome}
+use Rattle.breaker.specs.Calls.{After, guarded, kept}
 use Rattle.wait.specs.declared.Wait.{Wait}
 use Rattle.wait.specs.declared.Observed.{Observed}
 use Rattle.wait.specs.declared.Started.{Started}
@@ -22,90 +22,95 @@ use Rattle.wait.specs.declared.Ran.{Ran}
 use Rattle.wait.specs.declared.Ran.the-variants as Ran·is
 use Rattle.wait.specs.declared.Dropped.{Dropped}
 use Rattle.wait.specs.declared.Dropped.the-variants as Dropped·is
-use Rattle.wait.specs.Answers.{actValues}
+use Rattle.wait.specs.Answers.{droppedTold}
 use Rattle.wait.specs.Turns.{started}
-use Rattle.wait.specs.Keep.{turned}
-use Rattle.wait.specs.Run.{wholeTurns, runs, dropped}
+use Rattle.wait.specs.Manner.{turned, dropped}
+use Rattle.wait.specs.Run.{wholeTurns, runs}
+use Rattle.wait.specs.Keep.{keep}
 use Rattle.waiting.specs.declared.Pending.{Pending}
+use Rattle.waiting.specs.declared.Begun.the-variants as Begun·is
+use Rattle.waiting.specs.declared.Awaited.the-variants as Awaited·is
+use Rattle.waiting.specs.declared.Course.the-variants as Course·is
+use Rattle.waiting.specs.Answers.{begunTold, awaitedTold, courseTold}
 use Rattle.waiting.specs.Rules.{afterAbort, completes}
 
 -- ---- what a call leaves: what it told, the record, every place, and the wait with its ticket
 
-pub record After : Type 0 where
+pub record PendingAfter : Type 0 where
   pub told : Told
   pub breaker : Breaker
   pub places : List ℕ
   pub pending : Pending
 
-abbrev pub after : Told → Breaker → List ℕ → Pending → After
-after t b s p = record { told = t; breaker = b; places = s; pending = p }
+abbrev pub pendingAfter : Told → Breaker → List ℕ → Pending → PendingAfter
+pendingAfter t b s p = record { told = t; breaker = b; places = s; pending = p }
 
 abbrev pub pending : Wait → Ticket → Pending
 pending w t = record { wait = w; ticket = t }
 
 -- a rule's outcome stored, beside a wait
-abbrev pub beside : Pending → Breaker·calls.After → After
-beside p a = after (a .told) (a .breaker) (a .places) p
+abbrev pub beside : Pending → After → PendingAfter
+beside p a = pendingAfter (a .told) (a .breaker) (a .places) p
 
 -- ---- start: the times are tested before the admission; shed, all is left as it was
 
-abbrev pub begins : Wait → Admitted → Breaker → List ℕ → Pending → After
-begins w (granted t next) b s p = beside (pending w t) (kept (b .config) (done next))
-begins w (shed ms) b s p = after (sheds ms) b s p
+abbrev pub begins : Wait → Admitted → Breaker → List ℕ → Pending → PendingAfter
+begins w (granted t next) b s p = beside (pending w t) (kept (b .config) (outcome (begunTold Begun·is.Waits) next))
+begins w (shed ms) b s p = pendingAfter (begunTold (Begun·is.Shed (delayOf ms))) b s p
 
-abbrev pub startedTo : Started → ℕ → Breaker → List ℕ → Pending → After
+abbrev pub startedTo : Started → ℕ → Breaker → List ℕ → Pending → PendingAfter
 startedTo (Started·is.Made w) reading b s p = begins w (admit (settings (b .config)) reading (state b s)) b s p
-startedTo (Started·is.Refused r) reading b s p = after (refused r) b s p
+startedTo (Started·is.Refused r) reading b s p = pendingAfter (refused r) b s p
 
-unfoldable pub starting : ℕ → ℕ → Bool → ℕ → Breaker → List ℕ → Pending → After
-starting reading clock limited timeout b s p = guarded (λ r. after (refused r) b s p) (startedTo (started clock limited timeout) reading b s p) b s
+unfoldable pub starting : ℕ → ℕ → Bool → ℕ → Breaker → List ℕ → Pending → PendingAfter
+starting reading clock limited timeout b s p = guarded (λ r. pendingAfter (refused r) b s p) (startedTo (started clock limited timeout) reading b s p) b s
 
 -- ---- a turn: what its wait makes of it, and what the wait's end does to the breaker
 
 -- the wait w is left
-abbrev pub finishes : Ending → Wait → ℕ → ℕ → Breaker → List ℕ → Pending → After
+abbrev pub finishes : Ending → Wait → ℕ → ℕ → Breaker → List ℕ → Pending → PendingAfter
 finishes e w reading capacity b s p =
     beside (pending w (p .ticket)) (kept (b .config) (completes e reading capacity (p .ticket) (settings (b .config)) (state b s)))
 
-abbrev pub turnedTo : Turned → Wait → ℕ → ℕ → Breaker → List ℕ → Pending → After
-turnedTo (Turned·is.Next act) w reading capacity b s p = after (tell 0 (actValues act)) b s (pending w (p .ticket))
+abbrev pub turnedTo : Turned → Wait → ℕ → ℕ → Breaker → List ℕ → Pending → PendingAfter
+turnedTo (Turned·is.Next act) w reading capacity b s p = pendingAfter (awaitedTold (Awaited·is.Next act)) b s (pending w (p .ticket))
 turnedTo (Turned·is.Ends e) w reading capacity b s p = finishes e w reading capacity b s p
-turnedTo (Turned·is.Refused r) w reading capacity b s p = after (refused r) b s (pending w (p .ticket))
+turnedTo (Turned·is.Refused r) w reading capacity b s p = pendingAfter (refused r) b s (pending w (p .ticket))
 
-unfoldable pub turning : Observed → ℕ → ℕ → Breaker → List ℕ → Pending → After
+unfoldable pub turning : Observed → ℕ → ℕ → Breaker → List ℕ → Pending → PendingAfter
 turning t reading capacity b s p =
-    let x = turned (p .wait) t in
-    guarded (λ r. after (refused r) b s p) (turnedTo (x .answer) (x .wait) reading capacity b s p) b s
+    let x = turned keep (p .wait) t in
+    guarded (λ r. pendingAfter (refused r) b s p) (turnedTo (x .answer) (x .wait) reading capacity b s p) b s
 
 -- ---- a run: "a run adds turns taken, wait reached"; 3 is tested on the whole buffer of turns
 
-pub record Report : Type 0 where
-  pub left : After
+pub record PendingRun : Type 0 where
+  pub left : PendingAfter
   pub taken : ℕ
 
-abbrev pub report : After → ℕ → Report
-report a n = record { left = a; taken = n }
+abbrev pub pendingRun : PendingAfter → ℕ → PendingRun
+pendingRun a n = record { left = a; taken = n }
 
-abbrev pub ranTo : Ran → Wait → ℕ → ℕ → Breaker → List ℕ → Pending → After
+abbrev pub ranTo : Ran → Wait → ℕ → ℕ → Breaker → List ℕ → Pending → PendingAfter
 ranTo (Ran·is.Ends e) w reading capacity b s p = finishes e w reading capacity b s p
-ranTo Ran·is.Unfinished w reading capacity b s p = after (tell 10 []) b s (pending w (p .ticket))
-ranTo (Ran·is.Refused r) w reading capacity b s p = after (refused r) b s (pending w (p .ticket))
+ranTo Ran·is.Unfinished w reading capacity b s p = pendingAfter (courseTold Course·is.Unfinished) b s (pending w (p .ticket))
+ranTo (Ran·is.Refused r) w reading capacity b s p = pendingAfter (refused r) b s (pending w (p .ticket))
 
-unfoldable pub running : List ℕ → ℕ → ℕ → ℕ → Breaker → List ℕ → Pending → Report
+unfoldable pub running : List ℕ → ℕ → ℕ → ℕ → Breaker → List ℕ → Pending → PendingRun
 running turns limit reading capacity b s p =
-    let x = runs (p .wait) turns limit in
+    let x = runs keep (p .wait) turns limit in
     if wholeTurns turns then
-    guarded (λ r. report (after (refused r) b s p) 0) (report (ranTo (x .answer) (x .wait) reading capacity b s p) (x .taken)) b s
-    else report (after (refused Storage) b s p) 0
+    guarded (λ r. pendingRun (pendingAfter (refused r) b s p) 0) (pendingRun (ranTo (x .answer) (x .wait) reading capacity b s p) (x .taken)) b s
+    else pendingRun (pendingAfter (refused Storage) b s p) 0
 
 -- ---- "a dropped wait: abort; a dropped wait gives back a held grant"
 
-abbrev pub droppedTo : Dropped → Wait → Breaker → List ℕ → Pending → After
+abbrev pub droppedTo : Dropped → Wait → Breaker → List ℕ → Pending → PendingAfter
 droppedTo (Dropped·is.GiveBack n) w b s p =
-    beside (pending w (p .ticket)) (kept (b .config) (afterAbort (tell 0 (n ∷ [])) (p .ticket) (settings (b .config)) (state b s)))
-droppedTo (Dropped·is.Refused r) w b s p = after (refused r) b s (pending w (p .ticket))
+    beside (pending w (p .ticket)) (kept (b .config) (afterAbort (droppedTold (Dropped·is.GiveBack n)) (p .ticket) (settings (b .config)) (state b s)))
+droppedTo (Dropped·is.Refused r) w b s p = pendingAfter (refused r) b s (pending w (p .ticket))
 
-unfoldable pub leaving : Breaker → List ℕ → Pending → After
+unfoldable pub leaving : Breaker → List ℕ → Pending → PendingAfter
 leaving b s p =
-    let x = dropped (p .wait) in
-    guarded (λ r. after (refused r) b s p) (droppedTo (x .answer) (x .wait) b s p) b s
+    let x = dropped keep (p .wait) in
+    guarded (λ r. pendingAfter (refused r) b s p) (droppedTo (x .answer) (x .wait) b s p) b s

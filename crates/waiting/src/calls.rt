@@ -1,15 +1,15 @@
 // The calls of a wait before a breaker. Each tests storage and soundness first, then the wait; a refused one leaves the breaker as it was.
 ghost use mathlib.Core.Path.{_≡_};
 ghost use mathlib.Core.Bool.{true};
+ghost use mathlib.Core.List.{List};
+ghost use Prim.Native.Nat.{ℕ};
 ghost use Rattle.breaker.specs.Record.{settings, state, sound};
-ghost use Rattle.breaker.specs.Calls as Breaker·calls;
-ghost use Rattle.breaker.specs.Calls.{kept};
+ghost use Rattle.breaker.specs.Calls.{after, kept};
 ghost use Rattle.wait.specs.Answers.{droppedTold};
 ghost use Rattle.waiting.specs.Answers.{begunTold, completedTold, awaitedTold, courseTold};
 ghost use Rattle.waiting.specs.Rules.{completes};
 ghost use Rattle.waiting.specs.Calls as Calls;
-ghost use Rattle.waiting.specs.Calls.{after, report, starting, turning, running, leaving};
-ghost use Rattle.waiting.specs.declared.Course.the-variants.{Refused};
+ghost use Rattle.waiting.specs.Calls.{pendingAfter, pendingRun, starting, turning, running, leaving};
 use crate::Awaited;
 use crate::Awaiting;
 use crate::Beginning;
@@ -19,8 +19,8 @@ use crate::Completion;
 use crate::Course;
 use crate::Leaving;
 use crate::Pending;
-use crate::Running;
-use crate::Waited;
+use crate::Proceeding;
+use crate::Progress;
 use breaker::Breaker;
 use breaker::Standing;
 use breaker::Tested;
@@ -36,15 +36,16 @@ use wait::Ending;
 use wait::Observed;
 use wait::Ran;
 use wait::Started;
+use wait::TURN_WIDTH;
 use wait::Turned;
 use wait::Wait;
 
 // The pending wait with another wait and the same ticket.
-fn with_wait(wait: Wait, pending: Pending) -> Pending
+fn with_wait(wait: Wait, mut pending: Pending) -> Pending
     ensures { λ r. ⌜ r ≡ Calls.pending wait (pending .ticket) ⌝ }
 {
-    let ticket = pending.ticket;
-    Pending { wait, ticket }
+    pending.wait = wait;
+    pending
 }
 
 // Admits a call, and begins its wait for the inner limiter. The times are tested before the admission.
@@ -58,7 +59,7 @@ pub fn start(
     limited: bool,
     timeout: u64,
 ) -> Beginning
-    ensures { λ r. ⌜ after (begunTold (r .answer)) (r .breaker) (now (list .exit)) (r .pending) ≡ starting «now_ms» clock limited timeout breaker (now (list .entry)) pending ⌝ }
+    ensures { λ r. ⌜ pendingAfter (begunTold (r .answer)) (r .breaker) (now (list .exit)) (r .pending) ≡ starting «now_ms» clock limited timeout breaker (now (list .entry)) pending ⌝ }
 {
     match test(breaker, list) {
         Tested::Refused(r) => Beginning {
@@ -98,7 +99,7 @@ fn complete(
     capacity: u32,
 ) -> Completion
     requires { ⌜ sound breaker (now list) ≡ true ⌝ }
-    ensures { λ r. ⌜ Breaker·calls.after (completedTold (r .answer)) (r .breaker) (now (list .entry)) ≡ kept (breaker .config) (completes ending «now_ms» capacity ticket (settings (breaker .config)) (state breaker (now (list .entry)))) ⌝ }
+    ensures { λ r. ⌜ after (completedTold (r .answer)) (r .breaker) (now (list .entry)) ≡ kept (breaker .config) (completes ending «now_ms» capacity ticket (settings (breaker .config)) (state breaker (now (list .entry)))) ⌝ }
 {
     match ending {
         Ending::Deadline(back) => Completion {
@@ -137,7 +138,7 @@ pub fn turn(
     now_ms: u64,
     capacity: u32,
 ) -> Awaiting
-    ensures { λ r. ⌜ after (awaitedTold (r .answer)) (r .breaker) (now (list .exit)) (r .pending) ≡ turning turn «now_ms» capacity breaker (now (list .entry)) pending ⌝ }
+    ensures { λ r. ⌜ pendingAfter (awaitedTold (r .answer)) (r .breaker) (now (list .exit)) (r .pending) ≡ turning turn «now_ms» capacity breaker (now (list .entry)) pending ⌝ }
 {
     match test(breaker, list) {
         Tested::Refused(r) => Awaiting {
@@ -175,6 +176,16 @@ pub fn turn(
     }
 }
 
+fn proceeding(course: Course, taken: u64, breaker: Breaker, pending: Pending) -> Proceeding
+    ensures { λ r. ⌜ ((places : List ℕ) → pendingRun (pendingAfter (courseTold (r .answer .course)) (r .breaker) places (r .pending)) (r .answer .taken) ≡ pendingRun (pendingAfter (courseTold course) breaker places pending) taken) ⌝ }
+{
+    Proceeding {
+        answer: Progress { course, taken },
+        breaker,
+        pending,
+    }
+}
+
 // Takes turns until the wait ends, one is refused, or the limit or the turns are used up; one that ends is completed.
 // Ruled out: a count that isn't that of the rules; a refused turn that aborts the ticket.
 pub fn run(
@@ -185,71 +196,37 @@ pub fn run(
     limit: u64,
     now_ms: u64,
     capacity: u32,
-) -> Running
-    ensures { λ r. ⌜ report (after (courseTold (r .answer .course)) (r .breaker) (now (list .exit)) (r .pending)) (r .answer .taken) ≡ running (now (turns .entry)) limit «now_ms» capacity breaker (now (list .entry)) pending ⌝ }
+) -> Proceeding
+    ensures { λ r. ⌜ pendingRun (pendingAfter (courseTold (r .answer .course)) (r .breaker) (now (list .exit)) (r .pending)) (r .answer .taken) ≡ running (now (turns .entry)) limit «now_ms» capacity breaker (now (list .entry)) pending ⌝ }
 {
-    if turns.len() % 8 != 0 {
-        return not_run(Refusal::Storage, breaker, pending);
+    if turns.len() % TURN_WIDTH != 0 {
+        return proceeding(Course::Refused(Refusal::Storage), 0, breaker, pending);
     }
     match test(breaker, list) {
-        Tested::Refused(r) => not_run(r, breaker, pending),
+        Tested::Refused(r) => proceeding(Course::Refused(r), 0, breaker, pending),
         Tested::Sound => {
             let ran = wait::run(pending.wait, turns, limit);
             let answer = ran.answer;
             let taken = ran.taken;
             let next = with_wait(ran.wait, pending);
             match answer {
-                Ran::Unfinished => Running {
-                    answer: Waited {
-                        course: Course::Unfinished,
-                        taken,
-                    },
-                    breaker,
-                    pending: next,
-                },
-                Ran::Refused(r) => Running {
-                    answer: Waited {
-                        course: Course::Refused(r),
-                        taken,
-                    },
-                    breaker,
-                    pending: next,
-                },
+                Ran::Unfinished => proceeding(Course::Unfinished, taken, breaker, next),
+                Ran::Refused(r) => proceeding(Course::Refused(r), taken, breaker, next),
                 Ran::Ends(ending) => {
                     let done = complete(breaker, list, pending.ticket, ending, now_ms, capacity);
                     let told = done.answer;
                     let left = done.breaker;
-                    Running {
-                        answer: Waited {
-                            course: Course::Ends(told),
-                            taken,
-                        },
-                        breaker: left,
-                        pending: next,
-                    }
+                    proceeding(Course::Ends(told), taken, left, next)
                 }
             }
         }
     }
 }
 
-fn not_run(refusal: Refusal, breaker: Breaker, pending: Pending) -> Running
-    ensures { λ r. ⌜ (r .answer .course ≡ Refused refusal) × (r .answer .taken ≡ 0) × (r .breaker ≡ breaker) × (r .pending ≡ pending) ⌝ }
-{
-    Running {
-        answer: Waited {
-            course: Course::Refused(refusal),
-            taken: 0,
-        },
-        breaker,
-        pending,
-    }
-}
-
 // Ends a wait before it has ended: the ticket is aborted, and a held grant is to be given back.
 // Ruled out: a drop that keeps the probe; one that keeps a held grant.
 pub fn drop_pending(breaker: Breaker, list: &mut [u64], pending: Pending) -> Leaving
-    ensures { λ r. ⌜ after (droppedTold (r .answer)) (r .breaker) (now (list .exit)) (r .pending) ≡ leaving breaker (now (list .entry)) pending ⌝ }
+    ensures { λ r. ⌜ pendingAfter (droppedTold (r .answer)) (r .breaker) (now (list .exit)) (r .pending) ≡ leaving breaker (now (list .entry)) pending ⌝ }
 {
     match test(breaker, list) {
         Tested::Refused(r) => Leaving {

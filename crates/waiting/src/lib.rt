@@ -49,7 +49,7 @@ pub enum Course {
 }
 
 // A run's course, and the turns that it took.
-pub struct Waited {
+pub struct Progress {
     pub course: Course,
     pub taken: u64,
 }
@@ -66,8 +66,8 @@ pub struct Awaiting {
     pub pending: Pending,
 }
 
-pub struct Running {
-    pub answer: Waited,
+pub struct Proceeding {
+    pub answer: Progress,
     pub breaker: Breaker,
     pub pending: Pending,
 }

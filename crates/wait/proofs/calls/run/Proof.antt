@@ -6,32 +6,48 @@ use borrow.Author.Needs.{needs}
 use lib.ListN.{length, drop, length-drop}
 use Rattle.wait.specs.declared.Ran.{Ran}
 use Rattle.wait.specs.declared.Ran.the-variants.{Ends}
-use Rattle.wait.specs.declared.Wait.{Wait}
-use Rattle.wait.specs.Run.{running, steps, runs, tellRun}
-use Rattle.wait.proofs.Walks.{counting, ahead, passes-bounds, run-storage, run-starts, a-turn, next-whole, next-less, at-limit, at-end, run-refused, run-goes, run-ends}
+use Rattle.wait.specs.Run.{ranAs, steps, runs, tellRun}
+use Rattle.wait.specs.Keep.{keep}
+use Rattle.wait.proofs.Walks.{counting, ahead, passes-bounds, stands, run-storage, run-starts, a-turn, next-whole, next-less, at-limit, at-end, run-refused, run-goes, run-ends}
 use Rattle.wait.proofs.calls.run.Statement.{statement}
 use Rattle.wait.proofs.calls.run.Tie as tie
 
 abbrev Inv-loop : tie.InvT-loop
-Inv-loop turns limit at₀ taken₀ reached₀ at taken reached = (length (drop at turns) % 8 ≡ 0) × (taken ≤ limit) × (counting taken (steps (ahead (limit - taken) (drop at turns)) reached) ≡ runs reached₀ turns limit)
+Inv-loop turns limit at₀ taken₀ reached₀ at taken reached = (length (drop at turns) % 8 ≡ 0) × (taken ≤ limit) × (counting taken (steps keep (ahead (limit - taken) (drop at turns)) reached) ≡ runs keep reached₀ turns limit)
 
 abbrev μ-loop : tie.MeasureT-loop
 μ-loop turns limit at₀ taken₀ reached₀ at taken reached = length (drop at turns)
 
+ran-as-requires : tie.Need-ran-as-requires Inv-loop μ-loop
+ran-as-requires c κs = search needs
+
 returns : tie.Need-returns Inv-loop μ-loop
-returns c = ap tellRun (run-storage (c .before .before .args .wait) (c .before .before .args .turns .now) (c .before .before .args .limit) (c .if1 .taken))
+returns c =
+    let args = c .before .before .before .args in
+    ap tellRun (c .ran-as .ensures ∙ run-storage keep (args .wait) (args .turns .now) (args .limit) (c .before .if1 .taken))
 
 loop-holds : tie.Need-loop-holds Inv-loop μ-loop
-loop-holds c = (c .if1 .left, omega arith, run-starts (c .before .before .args .wait) (c .before .before .args .turns .now) (c .before .before .args .limit) (c .if1 .left))
+loop-holds c = (c .if1 .left, omega arith, run-starts keep (c .before .before .args .wait) (c .before .before .args .turns .now) (c .before .before .args .limit) (c .if1 .left))
+
+has-ended-requires : tie.Need-has-ended-requires Inv-loop μ-loop
+has-ended-requires c κs = search needs
 
 stand-requires : tie.Need-stand-requires Inv-loop μ-loop
 stand-requires c κs = search needs
 
+ran-as-requires-2 : tie.Need-ran-as-requires-2 Inv-loop μ-loop
+ran-as-requires-2 c κs = search needs
+
 returns-2 : tie.Need-returns-2 Inv-loop μ-loop
-returns-2 c = ap tellRun (ap (λ (a : Ran). running a (c .before .before .before .loop .taken) (c .before .before .before .loop .reached)) (c .stand .ensures) ∙ sym (at-limit (c .before .before .before .before .before .before .args .turns .now) (c .before .before .before .before .before .before .args .limit) (c .before .before .before .loop .at) (c .before .before .before .loop .taken) (c .before .before .before .loop .reached) (c .before .if2 .taken)) ∙ c .before .before .before .loop .inv .2)
+returns-2 c =
+    let args = c .before .before .before .before .before .before .before .before .args in
+    let loop = c .before .before .before .before .before .loop in
+    ap tellRun (c .ran-as2 .ensures ∙ ap (λ (a : Ran). ranAs a (loop .taken) (loop .reached)) (stands keep (loop .reached) _ _ (c .before .before .has-ended .ensures) (c .before .stand .ensures)) ∙ sym (at-limit keep (args .turns .now) (args .limit) (loop .at) (loop .taken) (loop .reached) (c .before .before .before .if2 .taken)) ∙ loop .inv .2)
 
 turn-at-requires : tie.Need-turn-at-requires Inv-loop μ-loop
-turn-at-requires c κs = (omega (arith, a-turn (c .before .before .before .before .before .args .turns .now) (c .before .before .before .before .before .args .limit) (c .before .before .loop .at) (c .before .before .loop .taken) (c .before .before .loop .reached) (c .before .before .loop .inv .0) (c .before .loop-test .taken), length-drop (c .before .before .loop .at) (c .before .before .before .before .before .args .turns .now)))
+turn-at-requires c κs =
+    let args = c .before .before .before .before .before .args in
+    (omega (arith, a-turn (args .turns .now) (args .limit) (c .before .before .loop .at) (c .before .before .loop .taken) (c .before .before .loop .inv .0) (c .before .loop-test .taken), length-drop (c .before .before .loop .at) (args .turns .now)))
 
 test-requires : tie.Need-test-requires Inv-loop μ-loop
 test-requires c κs = search needs
@@ -39,14 +55,25 @@ test-requires c κs = search needs
 enum-known-verdict : tie.Need-enum-known-verdict Inv-loop μ-loop
 enum-known-verdict c = search needs
 
+ran-as-requires-3 : tie.Need-ran-as-requires-3 Inv-loop μ-loop
+ran-as-requires-3 c κs = search needs
+
 returns-3 : tie.Need-returns-3 Inv-loop μ-loop
-returns-3 c = ap tellRun (run-refused (c .before .before .before .before .before .before .before .before .before .before .args .turns .now) (c .before .before .before .before .before .before .before .before .before .before .args .limit) (c .before .before .before .before .before .before .before .loop .at) (c .before .before .before .before .before .before .before .loop .taken) (c .before .before .before .before .before .before .before .loop .reached) _ (c .before .before .before .before .turn-at .result) (c .before .before .before .before .before .before .before .loop .inv .0) (c .before .before .before .before .before .before .loop-test .taken) (c .before .before .before .before .before .if2 .left) (c .before .before .before .before .before .before .before .loop .inv .2) (c .before .before .before .before .turn-at .ensures) (c .before .verdict .given .0 .0) (sym (c .before .verdict .given .1) ∙ c .before .before .before .test .ensures))
+returns-3 c =
+    let args = c .before .before .before .before .before .before .before .before .before .before .before .args in
+    let loop = c .before .before .before .before .before .before .before .before .loop in
+    let loop-test = c .before .before .before .before .before .before .before .loop-test in
+    let if2 = c .before .before .before .before .before .before .if2 in
+    let turn-at = c .before .before .before .before .before .turn-at in
+    ap tellRun (c .ran-as3 .ensures ∙ run-refused keep (args .turns .now) (args .limit) (loop .at) (loop .taken) (loop .reached) _ (turn-at .result) (loop .inv .0) (loop-test .taken) (if2 .left) (loop .inv .2) (turn-at .ensures) (c .before .before .verdict .given .0 .0) (sym (c .before .before .verdict .given .1) ∙ c .before .before .before .before .test .ensures))
 
 enum-told : tie.Need-enum-told Inv-loop μ-loop
 enum-told c = search needs
 
 moves-requires : tie.Need-moves-requires Inv-loop μ-loop
-moves-requires c κs = passes-bounds (c .before .before .before .before .before .before .loop .reached) (c .before .before .before .turn-at .result) (sym (c .enum-told .given .1) ∙ c .before .before .test .ensures)
+moves-requires c κs =
+    let loop = c .before .before .before .before .before .before .loop in
+    passes-bounds keep (loop .reached) (c .before .before .before .turn-at .result) (sym (c .enum-told .given .1) ∙ c .before .before .test .ensures)
 
 enum-known-step : tie.Need-enum-known-step Inv-loop μ-loop
 enum-known-step c = search needs
@@ -54,14 +81,26 @@ enum-known-step c = search needs
 enum-known-step-2 : tie.Need-enum-known-step-2 Inv-loop μ-loop
 enum-known-step-2 c = search needs
 
-add-t24 : tie.Need-add-t24 Inv-loop μ-loop
-add-t24 c = search needs
+add-ran-as : tie.Need-add-ran-as Inv-loop μ-loop
+add-ran-as c = search needs
 
 ended-wait-requires : tie.Need-ended-wait-requires Inv-loop μ-loop
 ended-wait-requires c κs = search needs
 
+ran-as-requires-4 : tie.Need-ran-as-requires-4 Inv-loop μ-loop
+ran-as-requires-4 c κs = search needs
+
 returns-4 : tie.Need-returns-4 Inv-loop μ-loop
-returns-4 c = ap (λ (w : Wait). tellRun (running (Ends (c .before .before .step2 .given .0 .0)) (c .before .before .before .before .before .before .before .before .before .before .before .loop .taken + 1) w)) (c .ended-wait .ensures) ∙ ap tellRun (run-ends (c .before .before .before .before .before .before .before .before .before .before .before .before .before .before .args .turns .now) (c .before .before .before .before .before .before .before .before .before .before .before .before .before .before .args .limit) (c .before .before .before .before .before .before .before .before .before .before .before .loop .at) (c .before .before .before .before .before .before .before .before .before .before .before .loop .taken) (c .before .before .before .before .before .before .before .before .before .before .before .loop .reached) _ (c .before .before .before .before .before .before .before .before .turn-at .result) (c .before .before .before .before .before .before .before .before .before .before .before .loop .inv .0) (c .before .before .before .before .before .before .before .before .before .before .loop-test .taken) (c .before .before .before .before .before .before .before .before .before .if2 .left) (c .before .before .before .before .before .before .before .before .before .before .before .loop .inv .2) (c .before .before .before .before .before .before .before .before .turn-at .ensures) (c .before .before .step2 .given .0 .0) (sym (c .before .before .before .before .before .enum-told .given .1) ∙ c .before .before .before .before .before .before .before .test .ensures) (sym (c .before .before .step2 .given .1) ∙ c .before .before .before .before .moves .ensures))
+returns-4 c =
+    let args = c .before .before .before .before .before .before .before .before .before .before .before .before .before .before .before .args in
+    let loop = c .before .before .before .before .before .before .before .before .before .before .before .before .loop in
+    let loop-test = c .before .before .before .before .before .before .before .before .before .before .before .loop-test in
+    let if2 = c .before .before .before .before .before .before .before .before .before .before .if2 in
+    let turn-at = c .before .before .before .before .before .before .before .before .before .turn-at in
+    let test = c .before .before .before .before .before .before .before .before .test in
+    let enum-told = c .before .before .before .before .before .before .enum-told in
+    let step2 = c .before .before .before .step2 in
+    ap tellRun (c .ran-as4 .ensures ∙ ap (ranAs (Ends (step2 .given .0 .0)) (loop .taken + 1)) (c .before .ended-wait .ensures) ∙ run-ends keep (args .turns .now) (args .limit) (loop .at) (loop .taken) (loop .reached) _ (turn-at .result) (loop .inv .0) (loop-test .taken) (if2 .left) (loop .inv .2) (turn-at .ensures) (step2 .given .0 .0) (sym (enum-told .given .1) ∙ test .ensures) (sym (step2 .given .1) ∙ c .before .before .before .before .before .moves .ensures))
 
 add-at : tie.Need-add-at Inv-loop μ-loop
 add-at c = search needs
@@ -70,16 +109,36 @@ add-taken : tie.Need-add-taken Inv-loop μ-loop
 add-taken c = search needs
 
 loop-less : tie.Need-loop-less Inv-loop μ-loop
-loop-less c = next-less (c .before .before .before .before .before .before .before .before .before .before .before .before .before .args .turns .now) (c .before .before .before .before .before .before .before .before .before .before .before .before .before .args .limit) (c .before .before .before .before .before .before .before .before .before .before .loop .at) (c .before .before .before .before .before .before .before .before .before .before .loop .taken) (c .before .before .before .before .before .before .before .before .before .before .loop .reached) (c .before .before .before .before .before .before .before .before .before .loop-test .taken)
+loop-less c =
+    let args = c .before .before .before .before .before .before .before .before .before .before .before .before .before .args in
+    let loop = c .before .before .before .before .before .before .before .before .before .before .loop in
+    let loop-test = c .before .before .before .before .before .before .before .before .before .loop-test in
+    next-less (args .turns .now) (args .limit) (loop .at) (loop .taken) (loop-test .taken)
 
 loop-again : tie.Need-loop-again Inv-loop μ-loop
-loop-again c = (next-whole (c .before .before .before .before .before .before .before .before .before .before .before .before .before .args .turns .now) (c .before .before .before .before .before .before .before .before .before .before .before .before .before .args .limit) (c .before .before .before .before .before .before .before .before .before .before .loop .at) (c .before .before .before .before .before .before .before .before .before .before .loop .taken) (c .before .before .before .before .before .before .before .before .before .before .loop .reached) (c .before .before .before .before .before .before .before .before .before .before .loop .inv .0) (c .before .before .before .before .before .before .before .before .before .loop-test .taken), omega (arith, c .before .before .before .before .before .before .before .before .if2 .left), run-goes (c .before .before .before .before .before .before .before .before .before .before .before .before .before .args .turns .now) (c .before .before .before .before .before .before .before .before .before .before .before .before .before .args .limit) (c .before .before .before .before .before .before .before .before .before .before .loop .at) (c .before .before .before .before .before .before .before .before .before .before .loop .taken) (c .before .before .before .before .before .before .before .before .before .before .loop .reached) _ (c .before .before .before .before .before .before .before .turn-at .result) (c .before .before .before .before .before .before .before .before .before .before .loop .inv .0) (c .before .before .before .before .before .before .before .before .before .loop-test .taken) (c .before .before .before .before .before .before .before .before .if2 .left) (c .before .before .before .before .before .before .before .before .before .before .loop .inv .2) (c .before .before .before .before .before .before .before .turn-at .ensures) (c .before .step .given .0 .0) (c .before .step .given .0 .1 .0) (sym (c .before .before .before .before .enum-told .given .1) ∙ c .before .before .before .before .before .before .test .ensures) (sym (c .before .step .given .1) ∙ c .before .before .before .moves .ensures))
+loop-again c =
+    let args = c .before .before .before .before .before .before .before .before .before .before .before .before .before .args in
+    let loop = c .before .before .before .before .before .before .before .before .before .before .loop in
+    let loop-test = c .before .before .before .before .before .before .before .before .before .loop-test in
+    let if2 = c .before .before .before .before .before .before .before .before .if2 in
+    let turn-at = c .before .before .before .before .before .before .before .turn-at in
+    let test = c .before .before .before .before .before .before .test in
+    (next-whole (args .turns .now) (args .limit) (loop .at) (loop .taken) (loop .inv .0) (loop-test .taken), omega (arith, if2 .left), run-goes keep (args .turns .now) (args .limit) (loop .at) (loop .taken) (loop .reached) _ (turn-at .result) (loop .inv .0) (loop-test .taken) (if2 .left) (loop .inv .2) (turn-at .ensures) (c .before .step .given .0 .0) (c .before .step .given .0 .1 .0) (sym (c .before .before .before .before .enum-told .given .1) ∙ test .ensures) (sym (c .before .step .given .1) ∙ c .before .before .before .moves .ensures))
+
+has-ended-requires-2 : tie.Need-has-ended-requires-2 Inv-loop μ-loop
+has-ended-requires-2 c κs = search needs
 
 stand-requires-2 : tie.Need-stand-requires-2 Inv-loop μ-loop
 stand-requires-2 c κs = search needs
 
+ran-as-requires-5 : tie.Need-ran-as-requires-5 Inv-loop μ-loop
+ran-as-requires-5 c κs = search needs
+
 returns-5 : tie.Need-returns-5 Inv-loop μ-loop
-returns-5 c = ap tellRun (ap (λ (a : Ran). running a (c .before .before .loop .taken) (c .before .before .loop .reached)) (c .stand2 .ensures) ∙ sym (at-end (c .before .before .before .before .before .args .turns .now) (c .before .before .before .before .before .args .limit) (c .before .before .loop .at) (c .before .before .loop .taken) (c .before .before .loop .reached) (c .before .loop-test .left)) ∙ c .before .before .loop .inv .2)
+returns-5 c =
+    let args = c .before .before .before .before .before .before .before .args in
+    let loop = c .before .before .before .before .loop in
+    ap tellRun (c .ran-as5 .ensures ∙ ap (λ (a : Ran). ranAs a (loop .taken) (loop .reached)) (stands keep (loop .reached) _ _ (c .before .before .has-ended2 .ensures) (c .before .stand2 .ensures)) ∙ sym (at-end keep (args .turns .now) (args .limit) (loop .at) (loop .taken) (loop .reached) (c .before .before .before .loop-test .left)) ∙ loop .inv .2)
 
 pub run-spec : {M : Type 1} → statement M
 run-spec =
@@ -87,24 +146,31 @@ run-spec =
     (tie.spec
     Inv-loop
     μ-loop
+    ran-as-requires
     returns
     loop-holds
+    has-ended-requires
     stand-requires
+    ran-as-requires-2
     returns-2
     turn-at-requires
     test-requires
     enum-known-verdict
+    ran-as-requires-3
     returns-3
     enum-told
     moves-requires
     enum-known-step
     enum-known-step-2
-    add-t24
+    add-ran-as
     ended-wait-requires
+    ran-as-requires-4
     returns-4
     add-at
     add-taken
     loop-less
     loop-again
+    has-ended-requires-2
     stand-requires-2
+    ran-as-requires-5
     returns-5)

@@ -1,9 +1,10 @@
 -- `wait::calls::turn` meets its contract: the tests, then the step. Assumes nothing.
 use mathlib.Core.Path.{sym, ap, _∙_}
 use borrow.Author.Needs.{needs}
-use Rattle.wait.specs.Keep.{after, tellTurn}
+use Rattle.wait.specs.Manner.{waitAfter, tellTurn}
+use Rattle.wait.specs.Keep.{keep}
 use Rattle.wait.specs.declared.Move.the-variants.{Goes, Ends}
-use Rattle.wait.proofs.Walks.{turn-refused, turn-passed, passes-bounds}
+use Rattle.wait.proofs.Walks.{passes-bounds, turn-refused, turn-passed}
 use Rattle.wait.proofs.calls.turn.Statement.{statement}
 use Rattle.wait.proofs.calls.turn.Tie as tie
 
@@ -14,13 +15,17 @@ enum-known-verdict : tie.Need-enum-known-verdict
 enum-known-verdict c = search needs
 
 returns : tie.Need-returns
-returns c = ap tellTurn (turn-refused (c .before .before .before .before .args .wait) (c .before .before .before .before .args .turn) (c .before .verdict .given .0 .0) (sym (c .before .verdict .given .1) ∙ c .before .before .before .test .ensures))
+returns c =
+    let args = c .before .before .before .before .args in
+    ap tellTurn (turn-refused keep (args .wait) (args .turn) (c .before .verdict .given .0 .0) (sym (c .before .verdict .given .1) ∙ c .before .before .before .test .ensures))
 
 enum-told : tie.Need-enum-told
 enum-told c = search needs
 
 moves-requires : tie.Need-moves-requires
-moves-requires c κs = passes-bounds (c .before .before .before .args .wait) (c .before .before .before .args .turn) (sym (c .enum-told .given .1) ∙ c .before .before .test .ensures)
+moves-requires c κs =
+    let args = c .before .before .before .args in
+    passes-bounds keep (args .wait) (args .turn) (sym (c .enum-told .given .1) ∙ c .before .before .test .ensures)
 
 enum-known-step : tie.Need-enum-known-step
 enum-known-step c = search needs
@@ -32,10 +37,16 @@ ended-wait-requires : tie.Need-ended-wait-requires
 ended-wait-requires c κs = search needs
 
 returns-2 : tie.Need-returns-2
-returns-2 c = ap tellTurn (turn-passed (c .before .before .before .before .before .before .before .args .wait) (c .before .before .before .before .before .before .before .args .turn) (Goes (c .before .step .given .0 .0) (c .before .step .given .0 .1 .0)) (sym (c .before .before .before .before .enum-told .given .1) ∙ c .before .before .before .before .before .before .test .ensures) (sym (c .before .step .given .1) ∙ c .before .before .before .moves .ensures))
+returns-2 c =
+    let args = c .before .before .before .before .before .before .before .args in
+    let test = c .before .before .before .before .before .before .test in
+    ap tellTurn (turn-passed keep (args .wait) (args .turn) (Goes (c .before .step .given .0 .0) (c .before .step .given .0 .1 .0)) (sym (c .before .before .before .before .enum-told .given .1) ∙ test .ensures) (sym (c .before .step .given .1) ∙ c .before .before .before .moves .ensures))
 
 returns-3 : tie.Need-returns-3
-returns-3 c = ap (after _) (c .ended-wait .ensures) ∙ ap tellTurn (turn-passed (c .before .before .before .before .before .before .before .before .args .wait) (c .before .before .before .before .before .before .before .before .args .turn) (Ends (c .before .before .step2 .given .0 .0)) (sym (c .before .before .before .before .before .enum-told .given .1) ∙ c .before .before .before .before .before .before .before .test .ensures) (sym (c .before .before .step2 .given .1) ∙ c .before .before .before .before .moves .ensures))
+returns-3 c =
+    let args = c .before .before .before .before .before .before .before .before .args in
+    let test = c .before .before .before .before .before .before .before .test in
+    ap (waitAfter _) (c .ended-wait .ensures) ∙ ap tellTurn (turn-passed keep (args .wait) (args .turn) (Ends (c .before .before .step2 .given .0 .0)) (sym (c .before .before .before .before .before .enum-told .given .1) ∙ test .ensures) (sym (c .before .before .step2 .given .1) ∙ c .before .before .before .before .moves .ensures))
 
 pub turn-spec : {M : Type 1} → statement M
 turn-spec =

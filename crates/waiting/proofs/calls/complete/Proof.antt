@@ -41,19 +41,32 @@ enum-known--r : tie.Need-enum-known--r
 enum-known--r c = search needs
 
 returns : tie.Need-returns
-returns c = aborted _ (c .before .before .before .before .before .args .ticket) (c .before .before .before .before .before .args .breaker) (c .abort-locked .result) (c .before .before .before .before .before .args .list .now) (c .before .before .before .before .before .pre) (c .abort-locked .ensures) ∙ ap (λ (e : Ending). kept (c .before .before .before .before .before .args .breaker .config) (completes e (c .before .before .before .before .before .args .now-ms) (c .before .before .before .before .before .args .capacity) (c .before .before .before .before .before .args .ticket) (settings (c .before .before .before .before .before .args .breaker .config)) (state (c .before .before .before .before .before .args .breaker) (c .before .before .before .before .before .args .list .now)))) (sym (c .before .before .ending .given .1))
+returns c =
+    let args = c .before .before .before .before .before .args in
+    aborted _ (args .ticket) (args .breaker) (c .abort-locked .result) (args .list .now) (c .before .before .before .before .before .pre) (c .abort-locked .ensures) ∙ ap (λ (e : Ending). kept (args .breaker .config) (completes e (args .now-ms) (args .capacity) (args .ticket) (settings (args .breaker .config)) (state (args .breaker) (args .list .now)))) (sym (c .before .before .ending .given .1))
 
 returns-2 : tie.Need-returns-2
-returns-2 c = aborted _ (c .before .before .before .before .args .ticket) (c .before .before .before .before .args .breaker) (c .abort-locked2 .result) (c .before .before .before .before .args .list .now) (c .before .before .before .before .pre) (c .abort-locked2 .ensures) ∙ ap (λ (e : Ending). kept (c .before .before .before .before .args .breaker .config) (completes e (c .before .before .before .before .args .now-ms) (c .before .before .before .before .args .capacity) (c .before .before .before .before .args .ticket) (settings (c .before .before .before .before .args .breaker .config)) (state (c .before .before .before .before .args .breaker) (c .before .before .before .before .args .list .now)))) (sym (c .before .enum-told .given .1))
+returns-2 c =
+    let args = c .before .before .before .before .args in
+    aborted _ (args .ticket) (args .breaker) (c .abort-locked2 .result) (args .list .now) (c .before .before .before .before .pre) (c .abort-locked2 .ensures) ∙ ap (λ (e : Ending). kept (args .breaker .config) (completes e (args .now-ms) (args .capacity) (args .ticket) (settings (args .breaker .config)) (state (args .breaker) (args .list .now)))) (sym (c .before .enum-told .given .1))
 
 returns-3 : tie.Need-returns-3
-returns-3 c = still-admits (c .before .before .before .before .before .before .args .now-ms) (c .before .before .before .before .before .before .args .ticket) (c .before .before .before .before .before .before .args .breaker) (c .before .before .before .before .before .before .args .list .now) (c .before .before .before .before .before .before .pre) (verdict (c .before .before .before .before .before .before .args .now-ms) (c .before .before .before .before .before .before .args .ticket) (c .before .before .before .before .before .before .args .breaker) (c .before .before .before .before .before .before .args .list .now) (c .before .before .before .before .before .before .pre) _ (ap standingTold (sym (c .enum-told3 .given .1)) ∙ c .before .before .still-admits .ensures)) ∙ ap (λ (e : Ending). kept (c .before .before .before .before .before .before .args .breaker .config) (completes e (c .before .before .before .before .before .before .args .now-ms) (c .before .before .before .before .before .before .args .capacity) (c .before .before .before .before .before .before .args .ticket) (settings (c .before .before .before .before .before .before .args .breaker .config)) (state (c .before .before .before .before .before .before .args .breaker) (c .before .before .before .before .before .before .args .list .now)))) (sym (c .before .before .before .enum-told2 .given .1))
+returns-3 c =
+    let args = c .before .before .before .before .before .before .args in
+    let pre = c .before .before .before .before .before .before .pre in
+    still-admits (args .now-ms) (args .ticket) (args .breaker) (args .list .now) pre (verdict (args .now-ms) (args .ticket) (args .breaker) (args .list .now) pre _ (ap standingTold (sym (c .enum-told3 .given .1)) ∙ c .before .before .still-admits .ensures)) ∙ ap (λ (e : Ending). kept (args .breaker .config) (completes e (args .now-ms) (args .capacity) (args .ticket) (settings (args .breaker .config)) (state (args .breaker) (args .list .now)))) (sym (c .before .before .before .enum-told2 .given .1))
 
 returns-4 : tie.Need-returns-4
-returns-4 c = sheds-now (c .before .before .before .before .before .before .before .before .args .now-ms) (c .before .before .before .before .before .before .before .before .args .ticket) (c .before .before .before .before .before .before .before .before .args .breaker) (c .before .before .before .before .before .before .before .before .args .list .now) (c .before .before .before .before .before .before .before .before .pre) (c .before .before .d .given .0 .0) _ (verdict (c .before .before .before .before .before .before .before .before .args .now-ms) (c .before .before .before .before .before .before .before .before .args .ticket) (c .before .before .before .before .before .before .before .before .args .breaker) (c .before .before .before .before .before .before .before .before .args .list .now) (c .before .before .before .before .before .before .before .before .pre) _ (ap standingTold (sym (c .before .before .d .given .1)) ∙ c .before .before .before .before .still-admits .ensures)) (aborted _ (c .before .before .before .before .before .before .before .before .args .ticket) (c .before .before .before .before .before .before .before .before .args .breaker) (c .abort-locked3 .result) (c .before .before .before .before .before .before .before .before .args .list .now) (c .before .before .before .before .before .before .before .before .pre) (c .abort-locked3 .ensures)) ∙ ap (λ (e : Ending). kept (c .before .before .before .before .before .before .before .before .args .breaker .config) (completes e (c .before .before .before .before .before .before .before .before .args .now-ms) (c .before .before .before .before .before .before .before .before .args .capacity) (c .before .before .before .before .before .before .before .before .args .ticket) (settings (c .before .before .before .before .before .before .before .before .args .breaker .config)) (state (c .before .before .before .before .before .before .before .before .args .breaker) (c .before .before .before .before .before .before .before .before .args .list .now)))) (sym (c .before .before .before .before .before .enum-told2 .given .1))
+returns-4 c =
+    let args = c .before .before .before .before .before .before .before .before .args in
+    let pre = c .before .before .before .before .before .before .before .before .pre in
+    sheds-now (args .now-ms) (args .ticket) (args .breaker) (args .list .now) pre (c .before .before .d .given .0 .0) _ (verdict (args .now-ms) (args .ticket) (args .breaker) (args .list .now) pre _ (ap standingTold (sym (c .before .before .d .given .1)) ∙ c .before .before .before .before .still-admits .ensures)) (aborted _ (args .ticket) (args .breaker) (c .abort-locked3 .result) (args .list .now) pre (c .abort-locked3 .ensures)) ∙ ap (λ (e : Ending). kept (args .breaker .config) (completes e (args .now-ms) (args .capacity) (args .ticket) (settings (args .breaker .config)) (state (args .breaker) (args .list .now)))) (sym (c .before .before .before .before .before .enum-told2 .given .1))
 
 returns-5 : tie.Need-returns-5
-returns-5 c = no-verdict (c .before .before .before .before .before .before .before .args .now-ms) (c .before .before .before .before .before .before .before .args .ticket) (c .before .before .before .before .before .before .before .args .breaker) (c .before .before .before .before .before .before .before .args .list .now) (c .before .before .before .before .before .before .before .pre) (c .before .-r .given .0 .0) (verdict (c .before .before .before .before .before .before .before .args .now-ms) (c .before .before .before .before .before .before .before .args .ticket) (c .before .before .before .before .before .before .before .args .breaker) (c .before .before .before .before .before .before .before .args .list .now) (c .before .before .before .before .before .before .before .pre) _ (ap standingTold (sym (c .before .-r .given .1)) ∙ c .before .before .before .still-admits .ensures))
+returns-5 c =
+    let args = c .before .before .before .before .before .before .before .args in
+    let pre = c .before .before .before .before .before .before .before .pre in
+    no-verdict (args .now-ms) (args .ticket) (args .breaker) (args .list .now) pre (c .before .-r .given .0 .0) (verdict (args .now-ms) (args .ticket) (args .breaker) (args .list .now) pre _ (ap standingTold (sym (c .before .-r .given .1)) ∙ c .before .before .before .still-admits .ensures))
 
 pub complete-spec : {M : Type 1} → statement M
 complete-spec =

@@ -12,7 +12,9 @@ use Rattle.waiting.proofs.calls.drop_pending.Statement.{statement}
 use Rattle.waiting.proofs.calls.drop_pending.Tie as tie
 
 sound-now : (c : tie.After-enum-told) → sound (c .before .before .before .before .before .args .breaker) (c .before .before .before .before .before .args .list .now) ≡ true
-sound-now c = tested-sound (c .before .before .before .before .before .args .breaker) (c .before .before .before .before .before .args .list .now) (sym (c .enum-told .given .1) ∙ c .before .before .test .ensures)
+sound-now c =
+    let args = c .before .before .before .before .before .args in
+    tested-sound (args .breaker) (args .list .now) (sym (c .enum-told .given .1) ∙ c .before .before .test .ensures)
 
 test-requires : tie.Need-test-requires
 test-requires c κs = search needs
@@ -42,19 +44,30 @@ same-length : tie.Need-same-length
 same-length c = search needs
 
 returns : tie.Need-returns
-returns c = drop-tested (c .before .before .before .before .before .before .args .breaker) (c .before .before .before .before .before .before .args .list .now) (c .before .before .before .before .before .before .args .pending) (c .before .r .given .0 .0) (sym (c .before .r .given .1) ∙ c .before .before .before .test .ensures)
+returns c =
+    let args = c .before .before .before .before .before .before .args in
+    drop-tested (args .breaker) (args .list .now) (args .pending) (c .before .r .given .0 .0) (sym (c .before .r .given .1) ∙ c .before .before .before .test .ensures)
 
 same-length-2 : tie.Need-same-length-2
 same-length-2 c = search needs
 
 returns-2 : tie.Need-returns-2
-returns-2 c = drop-refused (c .before .before .before .before .before .before .before .before .before .before .args .breaker) (c .before .before .before .before .before .before .before .before .before .before .args .list .now) (c .before .before .before .before .before .before .before .before .before .before .args .pending) (sound-now (c .before .before .before .before .before)) (c .before .before .before .before .drop-wait .result) (dropping-one _ _ (c .before .before .before .before .drop-wait .ensures)) (c .before .before .before .with-wait .result) (c .before .before .before .with-wait .ensures) (c .before .answer .given .0 .0) (c .before .answer .given .1)
+returns-2 c =
+    let args = c .before .before .before .before .before .before .before .before .before .before .args in
+    let drop-wait = c .before .before .before .before .drop-wait in
+    let with-wait = c .before .before .before .with-wait in
+    drop-refused (args .breaker) (args .list .now) (args .pending) (sound-now (c .before .before .before .before .before)) (drop-wait .result) (dropping-one _ _ (drop-wait .ensures)) (with-wait .result) (with-wait .ensures) (c .before .answer .given .0 .0) (c .before .answer .given .1)
 
 same-length-3 : tie.Need-same-length-3
 same-length-3 c = search needs
 
 returns-3 : tie.Need-returns-3
-returns-3 c = drop-gives (c .before .before .before .before .before .before .before .before .before .before .before .args .breaker) (c .before .before .before .before .before .before .before .before .before .before .before .args .list .now) (c .before .before .before .before .before .before .before .before .before .before .before .args .pending) (sound-now (c .before .before .before .before .before .before)) (c .before .before .before .before .before .drop-wait .result) (dropping-one _ _ (c .before .before .before .before .before .drop-wait .ensures)) (c .before .before .before .before .with-wait .result) (c .before .before .before .before .with-wait .ensures) (c .before .before .answer2 .given .0 .0) (c .abort-locked .result) (c .before .before .answer2 .given .1) (aborted (tell 0 (c .before .before .answer2 .given .0 .0 ∷ [])) (c .before .before .before .before .before .before .before .before .before .before .before .args .pending .ticket) (c .before .before .before .before .before .before .before .before .before .before .before .args .breaker) (c .abort-locked .result) (c .before .before .before .before .before .before .before .before .before .before .before .args .list .now) (sound-now (c .before .before .before .before .before .before)) (c .abort-locked .ensures))
+returns-3 c =
+    let args = c .before .before .before .before .before .before .before .before .before .before .before .args in
+    let before = c .before .before .before .before .before .before in
+    let drop-wait = c .before .before .before .before .before .drop-wait in
+    let with-wait = c .before .before .before .before .with-wait in
+    drop-gives (args .breaker) (args .list .now) (args .pending) (sound-now before) (drop-wait .result) (dropping-one _ _ (drop-wait .ensures)) (with-wait .result) (with-wait .ensures) (c .before .before .answer2 .given .0 .0) (c .abort-locked .result) (c .before .before .answer2 .given .1) (aborted (tell 0 (c .before .before .answer2 .given .0 .0 ∷ [])) (args .pending .ticket) (args .breaker) (c .abort-locked .result) (args .list .now) (sound-now before) (c .abort-locked .ensures))
 
 pub drop-pending-spec : {M : Type 1} → statement M
 drop-pending-spec =

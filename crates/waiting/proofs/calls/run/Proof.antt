@@ -5,18 +5,22 @@ use borrow.Author.Needs.{needs}
 use Rattle.breaker.specs.Record.{sound}
 use Rattle.breaker.proofs.Guard.{tested-sound}
 use Rattle.wait.proofs.OneToOne.{running-one}
-use Rattle.waiting.proofs.Steps.{not-run-is, run-turns, run-tested, run-unfinished, run-refused, run-ends}
+use Rattle.waiting.proofs.Steps.{run-turns, run-tested, run-unfinished, run-refused, run-ends}
 use Rattle.waiting.proofs.calls.run.Statement.{statement}
 use Rattle.waiting.proofs.calls.run.Tie as tie
 
-not-run-requires : tie.Need-not-run-requires
-not-run-requires c κs = search needs
+proceeding-requires : tie.Need-proceeding-requires
+proceeding-requires c κs = search needs
 
 returns : tie.Need-returns
-returns c = not-run-is _ _ _ _ (c .before .before .before .before .args .list .now) (c .not-run .ensures) ∙ run-turns (c .before .before .before .before .args .turns .now) (c .before .before .before .before .args .limit) (c .before .before .before .before .args .now-ms) (c .before .before .before .before .args .capacity) (c .before .before .before .before .args .breaker) (c .before .before .before .before .args .list .now) (c .before .before .before .before .args .pending) (c .before .if1 .taken)
+returns c =
+    let args = c .before .before .before .before .args in
+    c .proceeding .ensures (args .list .now) ∙ run-turns (args .turns .now) (args .limit) (args .now-ms) (args .capacity) (args .breaker) (args .list .now) (args .pending) (c .before .if1 .taken)
 
 sound-now : (c : tie.After-enum-told) → sound (c .before .before .before .before .before .before .before .args .breaker) (c .before .before .before .before .before .before .before .args .list .now) ≡ true
-sound-now c = tested-sound (c .before .before .before .before .before .before .before .args .breaker) (c .before .before .before .before .before .before .before .args .list .now) (sym (c .enum-told .given .1) ∙ c .before .before .test .ensures)
+sound-now c =
+    let args = c .before .before .before .before .before .before .before .args in
+    tested-sound (args .breaker) (args .list .now) (sym (c .enum-told .given .1) ∙ c .before .before .test .ensures)
 
 test-requires : tie.Need-test-requires
 test-requires c κs = search needs
@@ -24,8 +28,8 @@ test-requires c κs = search needs
 enum-known-r : tie.Need-enum-known-r
 enum-known-r c = search needs
 
-not-run-requires-2 : tie.Need-not-run-requires-2
-not-run-requires-2 c κs = search needs
+proceeding-requires-2 : tie.Need-proceeding-requires-2
+proceeding-requires-2 c κs = search needs
 
 enum-told : tie.Need-enum-told
 enum-told c = search needs
@@ -39,8 +43,14 @@ with-wait-requires c κs = search needs
 enum-told-2 : tie.Need-enum-told-2
 enum-told-2 c = search needs
 
+proceeding-requires-3 : tie.Need-proceeding-requires-3
+proceeding-requires-3 c κs = search needs
+
 enum-known-answer : tie.Need-enum-known-answer
 enum-known-answer c = search needs
+
+proceeding-requires-4 : tie.Need-proceeding-requires-4
+proceeding-requires-4 c κs = search needs
 
 enum-known-answer-2 : tie.Need-enum-known-answer-2
 enum-known-answer-2 c = search needs
@@ -48,46 +58,72 @@ enum-known-answer-2 c = search needs
 complete-requires : tie.Need-complete-requires
 complete-requires c κs = (sound-now (c .before .before .before .before .before .before))
 
+proceeding-requires-5 : tie.Need-proceeding-requires-5
+proceeding-requires-5 c κs = search needs
+
 same-length : tie.Need-same-length
 same-length c = search needs
 
 returns-2 : tie.Need-returns-2
-returns-2 c = not-run-is _ _ _ _ (c .before .before .before .before .before .before .before .before .before .args .list .now) (c .not-run2 .ensures) ∙ run-tested (c .before .before .before .before .before .before .before .before .before .args .turns .now) (c .before .before .before .before .before .before .before .before .before .args .limit) (c .before .before .before .before .before .before .before .before .before .args .now-ms) (c .before .before .before .before .before .before .before .before .before .args .capacity) (c .before .before .before .before .before .before .before .before .before .args .breaker) (c .before .before .before .before .before .before .before .before .before .args .list .now) (c .before .before .before .before .before .before .before .before .before .args .pending) (c .before .before .before .before .before .before .if1 .left) (c .before .before .r .given .0 .0) (sym (c .before .before .r .given .1) ∙ c .before .before .before .before .test .ensures)
+returns-2 c =
+    let args = c .before .before .before .before .before .before .before .before .before .args in
+    let if1 = c .before .before .before .before .before .before .if1 in
+    c .proceeding2 .ensures (args .list .now) ∙ run-tested (args .turns .now) (args .limit) (args .now-ms) (args .capacity) (args .breaker) (args .list .now) (args .pending) (if1 .left) (c .before .before .r .given .0 .0) (sym (c .before .before .r .given .1) ∙ c .before .before .before .before .test .ensures)
 
 same-length-2 : tie.Need-same-length-2
 same-length-2 c = search needs
 
 returns-3 : tie.Need-returns-3
-returns-3 c = run-unfinished (c .before .before .before .before .before .before .before .before .before .before .before .args .turns .now) (c .before .before .before .before .before .before .before .before .before .before .before .args .limit) (c .before .before .before .before .before .before .before .before .before .before .before .args .now-ms) (c .before .before .before .before .before .before .before .before .before .before .before .args .capacity) (c .before .before .before .before .before .before .before .before .before .before .before .args .breaker) (c .before .before .before .before .before .before .before .before .before .before .before .args .list .now) (c .before .before .before .before .before .before .before .before .before .before .before .args .pending) (c .before .before .before .before .before .before .before .before .if1 .left) (sound-now (c .before .before .before .before)) (c .before .before .before .run .result) (running-one _ _ (c .before .before .before .run .ensures)) (c .before .before .with-wait .result) (c .before .before .with-wait .ensures) (c .enum-told2 .given .1)
+returns-3 c =
+    let args = c .before .before .before .before .before .before .before .before .before .before .before .before .args in
+    let if1 = c .before .before .before .before .before .before .before .before .before .if1 in
+    let run = c .before .before .before .before .run in
+    let with-wait = c .before .before .before .with-wait in
+    c .proceeding3 .ensures (args .list .now) ∙ run-unfinished (args .turns .now) (args .limit) (args .now-ms) (args .capacity) (args .breaker) (args .list .now) (args .pending) (if1 .left) (sound-now (c .before .before .before .before .before)) (run .result) (running-one _ _ (run .ensures)) (with-wait .result) (with-wait .ensures) (c .before .enum-told2 .given .1)
 
 same-length-3 : tie.Need-same-length-3
 same-length-3 c = search needs
 
 returns-4 : tie.Need-returns-4
-returns-4 c = run-refused (c .before .before .before .before .before .before .before .before .before .before .before .before .args .turns .now) (c .before .before .before .before .before .before .before .before .before .before .before .before .args .limit) (c .before .before .before .before .before .before .before .before .before .before .before .before .args .now-ms) (c .before .before .before .before .before .before .before .before .before .before .before .before .args .capacity) (c .before .before .before .before .before .before .before .before .before .before .before .before .args .breaker) (c .before .before .before .before .before .before .before .before .before .before .before .before .args .list .now) (c .before .before .before .before .before .before .before .before .before .before .before .before .args .pending) (c .before .before .before .before .before .before .before .before .before .if1 .left) (sound-now (c .before .before .before .before .before)) (c .before .before .before .before .run .result) (running-one _ _ (c .before .before .before .before .run .ensures)) (c .before .before .before .with-wait .result) (c .before .before .before .with-wait .ensures) (c .before .answer .given .0 .0) (c .before .answer .given .1)
+returns-4 c =
+    let args = c .before .before .before .before .before .before .before .before .before .before .before .before .before .args in
+    let if1 = c .before .before .before .before .before .before .before .before .before .before .if1 in
+    let run = c .before .before .before .before .before .run in
+    let with-wait = c .before .before .before .before .with-wait in
+    c .proceeding4 .ensures (args .list .now) ∙ run-refused (args .turns .now) (args .limit) (args .now-ms) (args .capacity) (args .breaker) (args .list .now) (args .pending) (if1 .left) (sound-now (c .before .before .before .before .before .before)) (run .result) (running-one _ _ (run .ensures)) (with-wait .result) (with-wait .ensures) (c .before .before .answer .given .0 .0) (c .before .before .answer .given .1)
 
 same-length-4 : tie.Need-same-length-4
 same-length-4 c = search needs
 
 returns-5 : tie.Need-returns-5
-returns-5 c = run-ends (c .before .before .before .before .before .before .before .before .before .before .before .before .before .before .before .args .turns .now) (c .before .before .before .before .before .before .before .before .before .before .before .before .before .before .before .args .limit) (c .before .before .before .before .before .before .before .before .before .before .before .before .before .before .before .args .now-ms) (c .before .before .before .before .before .before .before .before .before .before .before .before .before .before .before .args .capacity) (c .before .before .before .before .before .before .before .before .before .before .before .before .before .before .before .args .breaker) (c .before .before .before .before .before .before .before .before .before .before .before .before .before .before .before .args .list .now) (c .before .before .before .before .before .before .before .before .before .before .before .before .before .before .before .args .pending) (c .before .before .before .before .before .before .before .before .before .before .before .before .if1 .left) (sound-now (c .before .before .before .before .before .before .before .before)) (c .before .before .before .before .before .before .before .run .result) (running-one _ _ (c .before .before .before .before .before .before .before .run .ensures)) (c .before .before .before .before .before .before .with-wait .result) (c .before .before .before .before .before .before .with-wait .ensures) (c .before .before .before .before .answer2 .given .0 .0) _ (c .before .before .before .before .answer2 .given .1) (c .before .complete .ensures)
+returns-5 c =
+    let args = c .before .before .before .before .before .before .before .before .before .before .before .before .before .before .before .before .args in
+    let if1 = c .before .before .before .before .before .before .before .before .before .before .before .before .before .if1 in
+    let before = c .before .before .before .before .before .before .before .before .before in
+    let run = c .before .before .before .before .before .before .before .before .run in
+    let with-wait = c .before .before .before .before .before .before .before .with-wait in
+    let answer2 = c .before .before .before .before .before .answer2 in
+    c .proceeding5 .ensures (args .list .now) ∙ run-ends (args .turns .now) (args .limit) (args .now-ms) (args .capacity) (args .breaker) (args .list .now) (args .pending) (if1 .left) (sound-now before) (run .result) (running-one _ _ (run .ensures)) (with-wait .result) (with-wait .ensures) (answer2 .given .0 .0) _ (answer2 .given .1) (c .before .before .complete .ensures)
 
 pub run-spec : {M : Type 1} → statement M
 run-spec =
     tie.close
     (tie.spec
-    not-run-requires
+    proceeding-requires
     returns
     test-requires
     enum-known-r
-    not-run-requires-2
+    proceeding-requires-2
     enum-told
     run-requires
     with-wait-requires
     enum-told-2
+    proceeding-requires-3
     enum-known-answer
+    proceeding-requires-4
     enum-known-answer-2
     complete-requires
+    proceeding-requires-5
     same-length
     returns-2
     same-length-2

@@ -11,7 +11,9 @@ use Rattle.waiting.proofs.calls.start.Statement.{statement}
 use Rattle.waiting.proofs.calls.start.Tie as tie
 
 sound-now : (c : tie.After-enum-told) → sound (c .before .before .before .before .before .args .breaker) (c .before .before .before .before .before .args .list .now) ≡ true
-sound-now c = tested-sound (c .before .before .before .before .before .args .breaker) (c .before .before .before .before .before .args .list .now) (sym (c .enum-told .given .1) ∙ c .before .before .test .ensures)
+sound-now c =
+    let args = c .before .before .before .before .before .args in
+    tested-sound (args .breaker) (args .list .now) (sym (c .enum-told .given .1) ∙ c .before .before .test .ensures)
 
 test-requires : tie.Need-test-requires
 test-requires c κs = search needs
@@ -44,25 +46,39 @@ same-length : tie.Need-same-length
 same-length c = search needs
 
 returns : tie.Need-returns
-returns c = start-tested (c .before .before .before .before .before .before .args .now-ms) (c .before .before .before .before .before .before .args .clock) (c .before .before .before .before .before .before .args .limited) (c .before .before .before .before .before .before .args .timeout) (c .before .before .before .before .before .before .args .breaker) (c .before .before .before .before .before .before .args .list .now) (c .before .before .before .before .before .before .args .pending) (c .before .r .given .0 .0) (sym (c .before .r .given .1) ∙ c .before .before .before .test .ensures)
+returns c =
+    let args = c .before .before .before .before .before .before .args in
+    start-tested (args .now-ms) (args .clock) (args .limited) (args .timeout) (args .breaker) (args .list .now) (args .pending) (c .before .r .given .0 .0) (sym (c .before .r .given .1) ∙ c .before .before .before .test .ensures)
 
 same-length-2 : tie.Need-same-length-2
 same-length-2 c = search needs
 
 returns-2 : tie.Need-returns-2
-returns-2 c = start-refused (c .before .before .before .before .before .before .before .before .before .args .now-ms) (c .before .before .before .before .before .before .before .before .before .args .clock) (c .before .before .before .before .before .before .before .before .before .args .limited) (c .before .before .before .before .before .before .before .before .before .args .timeout) (c .before .before .before .before .before .before .before .before .before .args .breaker) (c .before .before .before .before .before .before .before .before .before .args .list .now) (c .before .before .before .before .before .before .before .before .before .args .pending) (sound-now (c .before .before .before .before)) (c .before .r2 .given .0 .0) (ap startedTold (sym (c .before .r2 .given .1)) ∙ c .before .before .before .start .ensures)
+returns-2 c =
+    let args = c .before .before .before .before .before .before .before .before .before .args in
+    start-refused (args .now-ms) (args .clock) (args .limited) (args .timeout) (args .breaker) (args .list .now) (args .pending) (sound-now (c .before .before .before .before)) (c .before .r2 .given .0 .0) (ap startedTold (sym (c .before .r2 .given .1)) ∙ c .before .before .before .start .ensures)
 
 same-length-3 : tie.Need-same-length-3
 same-length-3 c = search needs
 
 returns-3 : tie.Need-returns-3
-returns-3 c = start-granted (c .before .before .before .before .before .before .before .before .before .before .before .before .before .args .now-ms) (c .before .before .before .before .before .before .before .before .before .before .before .before .before .args .clock) (c .before .before .before .before .before .before .before .before .before .before .before .before .before .args .limited) (c .before .before .before .before .before .before .before .before .before .before .before .before .before .args .timeout) (c .before .before .before .before .before .before .before .before .before .before .before .before .before .args .breaker) (c .before .before .before .before .before .before .before .before .before .before .before .before .before .args .list .now) (c .before .before .before .before .before .before .before .before .before .before .before .before .before .args .pending) (sound-now (c .before .before .before .before .before .before .before .before)) (c .before .before .before .before .before .wait .given .0 .0) (ap startedTold (sym (c .before .before .before .before .before .wait .given .1)) ∙ c .before .before .before .before .before .before .before .start .ensures) (c .before .ticket .given .0 .0) (c .before .ticket .given .0 .1 .0) (sym (c .before .ticket .given .1) ∙ c .before .before .before .admit-as-locked .ensures (c .before .before .before .before .before .before .before .before .before .before .before .before .before .args .breaker .config) (state (c .before .before .before .before .before .before .before .before .before .before .before .before .before .args .breaker) (c .before .before .before .before .before .before .before .before .before .before .before .before .before .args .list .now)) (stored-state (c .before .before .before .before .before .before .before .before .before .before .before .before .before .args .breaker) (c .before .before .before .before .before .before .before .before .before .before .before .before .before .args .list .now) (sound-now (c .before .before .before .before .before .before .before .before))))
+returns-3 c =
+    let args = c .before .before .before .before .before .before .before .before .before .before .before .before .before .args in
+    let before = c .before .before .before .before .before .before .before .before in
+    let start = c .before .before .before .before .before .before .before .start in
+    let wait = c .before .before .before .before .before .wait in
+    start-granted (args .now-ms) (args .clock) (args .limited) (args .timeout) (args .breaker) (args .list .now) (args .pending) (sound-now before) (wait .given .0 .0) (ap startedTold (sym (wait .given .1)) ∙ start .ensures) (c .before .ticket .given .0 .0) (c .before .ticket .given .0 .1 .0) (sym (c .before .ticket .given .1) ∙ c .before .before .before .admit-as-locked .ensures (args .breaker .config) (state (args .breaker) (args .list .now)) (stored-state (args .breaker) (args .list .now) (sound-now before)))
 
 same-length-4 : tie.Need-same-length-4
 same-length-4 c = search needs
 
 returns-4 : tie.Need-returns-4
-returns-4 c = start-shed (c .before .before .before .before .before .before .before .before .before .before .before .before .before .args .now-ms) (c .before .before .before .before .before .before .before .before .before .before .before .before .before .args .clock) (c .before .before .before .before .before .before .before .before .before .before .before .before .before .args .limited) (c .before .before .before .before .before .before .before .before .before .before .before .before .before .args .timeout) (c .before .before .before .before .before .before .before .before .before .before .before .before .before .args .breaker) (c .before .before .before .before .before .before .before .before .before .before .before .before .before .args .list .now) (c .before .before .before .before .before .before .before .before .before .before .before .before .before .args .pending) (sound-now (c .before .before .before .before .before .before .before .before)) (c .before .before .before .before .before .wait .given .0 .0) (ap startedTold (sym (c .before .before .before .before .before .wait .given .1)) ∙ c .before .before .before .before .before .before .before .start .ensures) (c .before .d .given .0 .0) (sym (c .before .d .given .1) ∙ c .before .before .before .admit-as-locked .ensures (c .before .before .before .before .before .before .before .before .before .before .before .before .before .args .breaker .config) (state (c .before .before .before .before .before .before .before .before .before .before .before .before .before .args .breaker) (c .before .before .before .before .before .before .before .before .before .before .before .before .before .args .list .now)) (stored-state (c .before .before .before .before .before .before .before .before .before .before .before .before .before .args .breaker) (c .before .before .before .before .before .before .before .before .before .before .before .before .before .args .list .now) (sound-now (c .before .before .before .before .before .before .before .before))))
+returns-4 c =
+    let args = c .before .before .before .before .before .before .before .before .before .before .before .before .before .args in
+    let before = c .before .before .before .before .before .before .before .before in
+    let start = c .before .before .before .before .before .before .before .start in
+    let wait = c .before .before .before .before .before .wait in
+    start-shed (args .now-ms) (args .clock) (args .limited) (args .timeout) (args .breaker) (args .list .now) (args .pending) (sound-now before) (wait .given .0 .0) (ap startedTold (sym (wait .given .1)) ∙ start .ensures) (c .before .d .given .0 .0) (sym (c .before .d .given .1) ∙ c .before .before .before .admit-as-locked .ensures (args .breaker .config) (state (args .breaker) (args .list .now)) (stored-state (args .breaker) (args .list .now) (sound-now before)))
 
 pub start-spec : {M : Type 1} → statement M
 start-spec =
