@@ -171,7 +171,7 @@ pub extern "C" fn pudvirez_still_admits(
     now_ms: u64,
     ticket: Ticket,
 ) -> Told
-    ensures { λ r. ⌜ r ≡ packed (asked (λ s st. Rules.stillAdmits «now_ms» ticket st) (now (breaker .entry)) (now (list .entry))) ⌝ }
+    ensures { λ r. ⌜ r ≡ packed (asked (Calls.standing «now_ms» ticket) (now (breaker .entry)) (now (list .entry))) ⌝ }
 {
     crossing::still_admits(*breaker, list, now_ms, ticket)
 }

@@ -196,9 +196,9 @@ pub fn finish_all(
 
 // Ruled out: a stale ticket told 0 while Open; a delay told in v2.
 pub fn still_admits(breaker: Breaker, list: &[u64], now_ms: u64, ticket: Ticket) -> Told
-    ensures { λ r. ⌜ r ≡ packed (asked (λ s st. Rules.stillAdmits «now_ms» ticket st) breaker (now (list .entry))) ⌝ }
+    ensures { λ r. ⌜ r ≡ packed (asked (Calls.standing «now_ms» ticket) breaker (now (list .entry))) ⌝ }
 {
-    tell_standing(breaker::still_admits(breaker, list, now_ms, ticket))
+    tell_standing(admission::still_admits(breaker, list, now_ms, ticket))
 }
 
 // Ruled out: a figure in a hundred; one that counts the good calls.

@@ -44,7 +44,7 @@ called (Reset t) s st = reset st
 
 -- "then state, generation, inflight, successes, open-until"
 abbrev pub five : State → List ℕ
-five st = st .state ∷ st .generation ∷ st .inflight ∷ st .successes ∷ st .openUntil ∷ []
+five st = st .state ∷ st .generation ∷ st .counts .inflight ∷ st .counts .successes ∷ st .openUntil ∷ []
 
 -- "`G` generation probe, `B` delay, `E` number for another refusal, or `N`": by what the call was told, 0 with a ticket, 6, another number, or 0 alone
 abbrev pub accepted : List ℕ → List ℕ → List ℕ

@@ -5,6 +5,7 @@ ghost use Rattle.trip.specs.Settings.{builtOf, clampedRatio};
 ghost use Rattle.journal.specs.Replay.{builderOf};
 use breaker::Breaker;
 use breaker::Shared;
+use breaker::no_counts;
 use lines::Header;
 use trip::CircuitBreakerBuilder;
 use trip::Config;
@@ -72,9 +73,7 @@ pub(crate) fn blank() -> Breaker {
             state: 0,
             generation: 0,
             run: 0,
-            inflight: 0,
-            trait_probes: 0,
-            successes: 0,
+            counts: no_counts(),
             open_until: 0,
             len: 0,
         },

@@ -1,12 +1,12 @@
--- `handle::still_admits` is thin over `breaker::still_admits`. Assumes nothing.
+-- `handle::still_admits` is thin over `admission::still_admits`. Assumes nothing.
 use mathlib.Core.List.{[], _∷_}
 use base.Logic.{id⊢}
 use Rattle.thin.proofs.Types.{u64, val, slice, ref}
 use Rattle.thin.proofs.Look.{look-spec}
 use Rattle.handle.proofs.Types.{breaker, standing, ticket}
-use Rattle.breaker.proofs.still_admits as g
-use Rattle.breaker.proofs.still_admits.Symbol as g-def
-use Rattle.breaker.proofs.still_admits.Met as g-thm
+use Rattle.admission.proofs.still_admits as g
+use Rattle.admission.proofs.still_admits.Symbol as g-def
+use Rattle.admission.proofs.still_admits.Met as g-thm
 use Rattle.handle.proofs.still_admits as f
 use Rattle.handle.proofs.still_admits.Key as key
 use Rattle.handle.proofs.still_admits.Statement as stated
