@@ -1,19 +1,21 @@
 -- The end of a wait leaves a sound breaker sound. Assumes nothing.
 use Prim.Native.Nat.{ℕ}
-use lib.Dec.{eqb}
-use Rattle.error.proofs.Choice.{if-cases}
+use mathlib.Core.Bool.{false}
 use Rattle.trip.specs.declared.Config.{Config}
 use Rattle.breaker.specs.declared.Ticket.{Ticket}
-use Rattle.breaker.specs.Record.{State, settings}
-use Rattle.breaker.specs.Rules.{Outcome, abort, stillAdmits}
-use Rattle.breaker.proofs.Keeps.{SoundAt, sound-finish}
+use Rattle.breaker.specs.Record.{State}
+use Rattle.breaker.specs.Rules.{Verdict, admits, refuses, stillAdmits}
+use Rattle.breaker.proofs.Keeps.{SoundAt, sound-aborted}
 use Rattle.wait.specs.declared.Ending.{Ending}
 use Rattle.wait.specs.declared.Ending.the-variants.{Done, Deadline, Never}
-use Rattle.waiting.specs.Rules.{completes}
+use Rattle.waiting.specs.Rules.{judged, completes}
 
-pub completes-sound : (c : Config) (e : Ending) (reading capacity : ℕ) (t : Ticket) (st : State) → SoundAt c st
-    → SoundAt c (completes e reading capacity t (settings c) st .after)
-completes-sound c Done reading capacity t st ok =
-    if-cases (λ (o : Outcome). SoundAt c (o .after)) (eqb (stillAdmits reading t st .number) 0) (λ e. ok) (λ e. sound-finish c 0 (abort t) st ok)
-completes-sound c (Deadline back) reading capacity t st ok = sound-finish c 0 (abort t) st ok
-completes-sound c Never reading capacity t st ok = sound-finish c 0 (abort t) st ok
+module _ (c : Config) (t : Ticket) (st : State) (ok : SoundAt c st) where
+  judged-sound : (v : Verdict) → SoundAt c (judged v t st .after)
+  judged-sound admits = ok
+  judged-sound (refuses ms) = sound-aborted c st ok t false
+
+  pub completes-sound : (e : Ending) (reading capacity : ℕ) → SoundAt c (completes e reading capacity t st .after)
+  completes-sound Done reading capacity = judged-sound (stillAdmits reading t st)
+  completes-sound (Deadline back) reading capacity = sound-aborted c st ok t false
+  completes-sound Never reading capacity = sound-aborted c st ok t false

@@ -1,37 +1,37 @@
--- The calls of a wait before a breaker, by what the breaker's and the wait's own calls told. Assumes nothing.
+-- The calls of a wait before a breaker, by what the breaker's steps and the wait's own calls answered. Assumes nothing.
 use Prim.Native.Nat.{ℕ, _%_}
 use mathlib.Core.Path.{_≡_, refl, sym, ap, _∙_}
-use mathlib.Core.Bool.{Bool, true, false, _||_, false≢true}
-use mathlib.Core.List.{List, [], _∷_, _++_}
-use lib.Dec.{eqb}
+use mathlib.Core.Bool.{Bool, true, false}
+use mathlib.Core.List.{List, [], _∷_}
 use lib.ListN.{length}
 use borrow.Author.Tests.{eq-eqb, ne-eqb}
-use Rattle.error.specs.Choice.{if_then_else_}
-use Rattle.error.specs.Told.{Told, tell, refused, nothing}
+use Rattle.error.specs.Told.{Told, tell, nothing, refused}
 use Rattle.error.specs.declared.Refusal.{Refusal}
 use Rattle.error.specs.declared.Refusal.the-variants.{Storage}
-use Rattle.error.proofs.OneToOne.{no-refusal, no-shed}
+use Rattle.history.specs.Items.{padded}
+use Rattle.trip.specs.declared.Config.{Config}
 use Rattle.breaker.specs.declared.Breaker.{Breaker}
 use Rattle.breaker.specs.declared.Ticket.{Ticket}
 use Rattle.breaker.specs.declared.Delay.{Delay}
 use Rattle.breaker.specs.declared.Tested.the-variants as Tested·is
-use Rattle.trip.specs.declared.Config.{Config}
-use Rattle.history.specs.Items.{padded}
-use Rattle.steps.specs.declared.Entry.the-variants.{Granted, Shed}
-use Rattle.steps.specs.Steps.{entry}
-use Rattle.admission.proofs.Admitting.{admitted-shed, admitted-granted}
-use Rattle.breaker.specs.Record.{State, Closed, Open, settings, state, stored, sound}
-use Rattle.breaker.specs.Answers.{ticketValues, delayValues}
-use Rattle.breaker.specs.Rules.{Admitted, granted, shed, admit, admitAs, viaTrait, sheds, stillAdmits, finish, aborting}
-use Rattle.breaker.specs.Calls.{After, after, kept, answered, asked, guarded}
+use Rattle.breaker.specs.Record.{State, settings, state, stored, sound}
+use Rattle.breaker.specs.Answers.{shedTold}
+use Rattle.breaker.specs.Rules as Rules
+use Rattle.breaker.specs.Rules.{Outcome, outcome, Admitted, granted, shed, admit, admitAs, viaTrait, aborted, admits, refuses, stillAdmits}
+use Rattle.breaker.specs.Calls.{After, after, kept, answered, guarded}
 use Rattle.breaker.proofs.Record.{stored-state, padded-state}
-use Rattle.breaker.proofs.Guard.{guarded-refused, guarded-done, asked-done, unchanged}
+use Rattle.breaker.proofs.Guard.{guarded-refused, guarded-done}
+use Rattle.steps.specs.declared.Entry.the-variants.{Granted, Shed}
+use Rattle.steps.specs.declared.Verdict.{Verdict}
+use Rattle.steps.specs.declared.Verdict.the-variants as Verdict·is
+use Rattle.steps.specs.Steps.{entry, verdict}
 use Rattle.steps.proofs.Aborting.{given-back}
-use Rattle.breaker.proofs.OneToOne.{ticketIn, ticket-back}
+use Rattle.admission.proofs.Admitting.{entered-shed, entered-granted, admitted-granted}
 use Rattle.wait.specs.declared.Wait.{Wait}
 use Rattle.wait.specs.declared.Observed.{Observed}
 use Rattle.wait.specs.declared.Act.{Act}
 use Rattle.wait.specs.declared.Ending.{Ending}
+use Rattle.wait.specs.declared.Ending.the-variants.{Done}
 use Rattle.wait.specs.declared.Started.{Started}
 use Rattle.wait.specs.declared.Started.the-variants as Started·is
 use Rattle.wait.specs.declared.Turned.{Turned}
@@ -43,68 +43,56 @@ use Rattle.wait.specs.declared.Dropped.the-variants as Dropped·is
 use Rattle.wait.specs.declared.Turning.{Turning}
 use Rattle.wait.specs.declared.Running.{Running}
 use Rattle.wait.specs.declared.Dropping.{Dropping}
-use Rattle.wait.specs.Answers.{actValues, startedTold, waitValues}
+use Rattle.wait.specs.Answers.{actValues, startedTold, waitValues, droppedTold}
 use Rattle.wait.specs.Turns.{started}
-use Rattle.wait.proofs.OneToOne.{started-one}
 use Rattle.wait.specs.Manner.{turned, dropped}
 use Rattle.wait.specs.Run.{runs}
 use Rattle.wait.specs.Keep.{keep}
+use Rattle.wait.proofs.OneToOne.{started-one}
 use Rattle.waiting.specs.declared.Pending.{Pending}
+use Rattle.waiting.specs.declared.Completed.the-variants as Completed·is
+use Rattle.waiting.specs.Answers.{completedTold}
 use Rattle.waiting.specs.Rules.{afterAbort, judged, completes}
 use Rattle.waiting.specs.Calls.{PendingAfter, pendingAfter, pending, beside, begins, startedTo, starting, turnedTo, turning, PendingRun, pendingRun, ranTo, running, droppedTo, leaving}
 
--- ---- what a sound breaker's calls come to
-
--- an abort, beside whatever is told
-pub aborted : (told : Told) (t : Ticket) (b next : Breaker) (s : List ℕ) → sound b s ≡ true
-    → ((c : Config) (st : State) (reading : ℕ) → b ≡ stored c st → kept c (finish (settings c) reading (aborting t false) st) ≡ after nothing next (padded (st .list)))
-    → after told next s ≡ kept (b .config) (afterAbort told t (settings (b .config)) (state b s))
-aborted told t b next s ok h = given-back told (b .config) 0 t false (state b s) next s (h (b .config) (state b s) 0 (stored-state b s ok)) (padded-state b s ok)
-
 -- ---- completion, by the verdict
 
-no-told : {A : Type 0} (x y z : Bool) (r : Refusal) (vs vs' : List ℕ)
-    → refused r ≡ (if x || y then tell 0 [] else if z then tell 6 vs else tell 6 vs') → A
-no-told true y z r vs vs' e = no-refusal r [] (sym e)
-no-told false true z r vs vs' e = no-refusal r [] (sym e)
-no-told false false true r vs vs' e = no-shed r vs (sym e)
-no-told false false false r vs vs' e = no-shed r vs' (sym e)
+-- what the step's verdict comes to, and that it is the rule's
+abbrev judgedBy : Verdict → Ticket → State → Outcome
+judgedBy Verdict·is.Admits t st = outcome (completedTold (Completed·is.Admitted t)) st
+judgedBy (Verdict·is.Shed d) t st = afterAbort (completedTold (Completed·is.Shed d 1)) t st
 
-module _ (reading : ℕ) (t : Ticket) (b : Breaker) (s : List ℕ) (ok : sound b s ≡ true) where
-  -- the verdict of still_admits
-  pub verdict : (told : Told) → told ≡ asked (λ c st. stillAdmits reading t st) b s → told ≡ stillAdmits reading t (state b s)
-  verdict told e = e ∙ sym (asked-done (λ c st. stillAdmits reading t st) b s ok)
+judged-by : (v : Rules.Verdict) (t : Ticket) (st : State) → judgedBy (verdict v) t st ≡ judged v t st
+judged-by admits t st = refl
+judged-by (refuses ms) t st = refl
 
-  pub still-admits : tell 0 [] ≡ stillAdmits reading t (state b s)
-      → after (tell 0 (0 ∷ ticketValues t)) b s ≡ kept (b .config) (judged (stillAdmits reading t (state b s)) t (settings (b .config)) (state b s))
-  still-admits e = unchanged (tell 0 (0 ∷ ticketValues t)) b s ok ∙ ap (λ (v : Told). kept (b .config) (judged v t (settings (b .config)) (state b s))) e
+module _ (c : Config) (reading capacity : ℕ) (t : Ticket) (st : State) where
+  by-verdict : (x : Verdict) → x ≡ verdict (stillAdmits reading t st) → kept c (judgedBy x t st) ≡ kept c (completes Done reading capacity t st)
+  by-verdict x e = ap (λ (y : Verdict). kept c (judgedBy y t st)) e ∙ ap (kept c) (judged-by (stillAdmits reading t st) t st)
 
-  pub sheds-now : (d : Delay) (a : After) → tell 6 (delayValues d) ≡ stillAdmits reading t (state b s)
-      → a ≡ kept (b .config) (afterAbort (tell 6 (delayValues d ++ (1 ∷ []))) t (settings (b .config)) (state b s))
-      → a ≡ kept (b .config) (judged (stillAdmits reading t (state b s)) t (settings (b .config)) (state b s))
-  sheds-now d a e q = q ∙ ap (λ (v : Told). kept (b .config) (judged v t (settings (b .config)) (state b s))) e
+  pub still-admits : (b : Breaker) → b ≡ stored c st → Verdict·is.Admits ≡ verdict (stillAdmits reading t st)
+      → after (completedTold (Completed·is.Admitted t)) b (padded (st .list)) ≡ kept c (completes Done reading capacity t st)
+  still-admits b q e = ap (λ (y : Breaker). after (completedTold (Completed·is.Admitted t)) y (padded (st .list))) q ∙ by-verdict Verdict·is.Admits e
 
-  -- a sound breaker is never refused
-  pub no-verdict : {A : Type 0} (r : Refusal) → refused r ≡ stillAdmits reading t (state b s) → A
-  unfolding stillAdmits
-  no-verdict r e = no-told (eqb (t .generation) (state b s .generation)) (eqb (state b s .state) Closed) (eqb (state b s .state) Open) r _ _ e
+  pub sheds-now : (d : Delay) (a : After) → Verdict·is.Shed d ≡ verdict (stillAdmits reading t st) → a ≡ kept c (afterAbort (completedTold (Completed·is.Shed d 1)) t st)
+      → a ≡ kept c (completes Done reading capacity t st)
+  sheds-now d a e q = q ∙ by-verdict (Verdict·is.Shed d) e
+
+-- what an end leaves, for every state that the record stores
+abbrev Leaves : Ending → ℕ → ℕ → Ticket → Breaker → Told → Breaker → Type 0
+Leaves e reading capacity t b told next = (c : Config) (st : State) → b ≡ stored c st → after told next (padded (st .list)) ≡ kept c (completes e reading capacity t st)
+
+-- over a sound breaker's places
+completed : (e : Ending) (reading capacity : ℕ) (t : Ticket) (b : Breaker) (s : List ℕ) (told : Told) (next : Breaker) → sound b s ≡ true → Leaves e reading capacity t b told next
+    → after told next s ≡ kept (b .config) (completes e reading capacity t (state b s))
+completed e reading capacity t b s told next ok h = ap (after told next) (padded-state b s ok) ∙ h (b .config) (state b s) (stored-state b s ok)
 
 -- ---- start
 
--- what an admission told, and what the rule says
-module _ (b : Breaker) (s : List ℕ) (p : Pending) (w : Wait) where
-  granted-is : (x : Admitted) (t : Ticket) (next : Breaker) (s' : List ℕ)
-      → after (tell 0 (ticketValues t)) next s' ≡ kept (b .config) (answered (viaTrait false x) (state b s))
-      → pendingAfter (tell 0 []) next s' (pending w t) ≡ begins w x b s p
-  granted-is (granted u st) t next s' e =
-      ap (λ (v : Ticket). pendingAfter (tell 0 []) next s' (pending w v)) (sym (ticket-back t) ∙ ap (λ (a : After). ticketIn (a .told .values)) e ∙ ticket-back u) ∙ ap (λ (a : After). pendingAfter (tell 0 []) (a .breaker) (a .places) (pending w u)) e
-  granted-is (shed ms) t next s' e = absurd (false≢true (sym (ap (λ (a : After). eqb (a .told .number) 0) e)))
-
-  shed-is : sound b s ≡ true → (x : Admitted) (d : Delay) (next : Breaker) (s' : List ℕ)
-      → after (tell 6 (delayValues d)) next s' ≡ kept (b .config) (answered (viaTrait false x) (state b s))
-      → pendingAfter (tell 6 (delayValues d)) next s' p ≡ begins w x b s p
-  shed-is ok (granted u st) d next s' e = absurd (false≢true (ap (λ (a : After). eqb (a .told .number) 0) e))
-  shed-is ok (shed ms) d next s' e = ap (beside p) (e ∙ sym (unchanged (sheds ms) b s ok))
+-- a plain admission is the rule's own
+plainly : (x : Admitted) → viaTrait false x ≡ x
+plainly (granted t st) = refl
+plainly (shed ms) = refl
 
 module _ (reading clock : ℕ) (limited : Bool) (timeout : ℕ) (b : Breaker) (s : List ℕ) (p : Pending) where
   pub start-tested : (r : Refusal) → Tested·is.Refused r ≡ guarded Tested·is.Refused Tested·is.Sound b s → pendingAfter (refused r) b s p ≡ starting reading clock limited timeout b s p
@@ -122,13 +110,26 @@ module _ (reading clock : ℕ) (limited : Bool) (timeout : ℕ) (b : Breaker) (s
 
     -- a wait that was made, and what the admission came to
     module _ (w : Wait) (made : tell 0 (waitValues w) ≡ startedTold (started clock limited timeout)) where
+      asked : Admitted
+      asked = admit (settings (b .config)) reading (state b s)
+
+      -- the admission is what the entry stands for
+      admitted-as : (x : Admitted) → viaTrait false asked ≡ x → begins w x b s p ≡ starting reading clock limited timeout b s p
+      unfolding asked
+      admitted-as x q = ap (λ (y : Admitted). begins w y b s p) (sym q ∙ plainly asked) ∙ begun (Started·is.Made w) made
+
       pub start-granted : (t : Ticket) (next : Breaker) → Granted t next ≡ entry (b .config) (admitAs false (settings (b .config)) reading (state b s))
-          → pendingAfter (tell 0 []) next s (pending w t) ≡ starting reading clock limited timeout b s p
-      start-granted t next e = granted-is b s p w (admit (settings (b .config)) reading (state b s)) t next s (admitted-granted reading b s ok false t next e) ∙ begun (Started·is.Made w) made
+          → pendingAfter nothing next s (pending w t) ≡ starting reading clock limited timeout b s p
+      unfolding asked
+      start-granted t next e =
+          entered-granted (b .config) t next (viaTrait false asked) e
+          (λ st q r. ap (λ (a : After). pendingAfter nothing (a .breaker) (a .places) (pending w t)) (admitted-granted reading b s ok false t next e ∙ ap (λ (x : Admitted). kept (b .config) (answered x (state b s))) q)
+          ∙ admitted-as (granted t st) q)
 
       pub start-shed : (d : Delay) → Shed d ≡ entry (b .config) (admitAs false (settings (b .config)) reading (state b s))
-          → pendingAfter (tell 6 (delayValues d)) b s p ≡ starting reading clock limited timeout b s p
-      start-shed d e = shed-is b s p w ok (admit (settings (b .config)) reading (state b s)) d b s (admitted-shed reading b s ok false d e) ∙ begun (Started·is.Made w) made
+          → pendingAfter (shedTold d) b s p ≡ starting reading clock limited timeout b s p
+      unfolding asked
+      start-shed d e = entered-shed (b .config) d (viaTrait false asked) e (λ ms q r. ap (λ (x : Delay). pendingAfter (shedTold x) b s p) r ∙ admitted-as (shed ms) q)
 
 -- ---- a turn, a run, a drop
 
@@ -151,10 +152,10 @@ module _ (t : Observed) (reading capacity : ℕ) (b : Breaker) (s : List ℕ) (p
     pub turn-refused : (r : Refusal) → x .answer ≡ Turned·is.Refused r → pendingAfter (refused r) b s q ≡ turning t reading capacity b s p
     turn-refused r e = ap (pendingAfter (refused r) b s) left ∙ ap (λ (a : Turned). turnedTo a (x .wait) reading capacity b s p) (sym e) ∙ turn-is ok x is
 
-    pub turn-ends : (e : Ending) (a : After) → x .answer ≡ Turned·is.Ends e
-        → a ≡ kept (b .config) (completes e reading capacity (p .ticket) (settings (b .config)) (state b s)) → beside q a ≡ turning t reading capacity b s p
-    turn-ends e a h d =
-        ap (λ (y : Pending). beside y a) left ∙ ap (beside (pending (x .wait) (p .ticket))) d ∙ ap (λ (y : Turned). turnedTo y (x .wait) reading capacity b s p) (sym h) ∙ turn-is ok x is
+    pub turn-ends : (e : Ending) (told : Told) (next : Breaker) → x .answer ≡ Turned·is.Ends e → Leaves e reading capacity (p .ticket) b told next
+        → pendingAfter told next s q ≡ turning t reading capacity b s p
+    turn-ends e told next h d =
+        ap (pendingAfter told next s) left ∙ ap (beside (pending (x .wait) (p .ticket))) (completed e reading capacity (p .ticket) b s told next ok d) ∙ ap (λ (y : Turned). turnedTo y (x .wait) reading capacity b s p) (sym h) ∙ turn-is ok x is
 
 module _ (turns : List ℕ) (limit reading capacity : ℕ) (b : Breaker) (s : List ℕ) (p : Pending) where
   pub run-turns : (length turns % 8 ≡ 0 → ⊥) → pendingRun (pendingAfter (refused Storage) b s p) 0 ≡ running turns limit reading capacity b s p
@@ -187,10 +188,12 @@ module _ (turns : List ℕ) (limit reading capacity : ℕ) (b : Breaker) (s : Li
     pub run-refused : (r : Refusal) → x .answer ≡ Ran·is.Refused r → pendingRun (pendingAfter (refused r) b s q) (x .taken) ≡ running turns limit reading capacity b s p
     run-refused r e = ap (λ (y : Pending). pendingRun (pendingAfter (refused r) b s y) (x .taken)) left ∙ ran-is (Ran·is.Refused r) e
 
-    pub run-ends : (e : Ending) (a : After) → x .answer ≡ Ran·is.Ends e
-        → a ≡ kept (b .config) (completes e reading capacity (p .ticket) (settings (b .config)) (state b s)) → pendingRun (beside q a) (x .taken) ≡ running turns limit reading capacity b s p
-    run-ends e a h d =
-        ap (λ (y : Pending). pendingRun (beside y a) (x .taken)) left ∙ ap (λ (y : After). pendingRun (beside (pending (x .wait) (p .ticket)) y) (x .taken)) d ∙ ran-is (Ran·is.Ends e) h
+    pub run-ends : (e : Ending) (told : Told) (next : Breaker) → x .answer ≡ Ran·is.Ends e → Leaves e reading capacity (p .ticket) b told next
+        → pendingRun (pendingAfter told next s q) (x .taken) ≡ running turns limit reading capacity b s p
+    run-ends e told next h d =
+        ap (λ (y : Pending). pendingRun (pendingAfter told next s y) (x .taken)) left
+        ∙ ap (λ (y : After). pendingRun (beside (pending (x .wait) (p .ticket)) y) (x .taken)) (completed e reading capacity (p .ticket) b s told next ok d)
+        ∙ ran-is (Ran·is.Ends e) h
 
 module _ (b : Breaker) (s : List ℕ) (p : Pending) where
   pub drop-tested : (r : Refusal) → Tested·is.Refused r ≡ guarded Tested·is.Refused Tested·is.Sound b s → pendingAfter (refused r) b s p ≡ leaving b s p
@@ -208,11 +211,11 @@ module _ (b : Breaker) (s : List ℕ) (p : Pending) where
         ∙ ap (λ (y : Dropped). droppedTo y (x .wait) b s p) (sym e)
         ∙ drop-is ok x is
 
-    pub drop-gives : (n : ℕ) (next : Breaker) → x .answer ≡ Dropped·is.GiveBack n
-        → after (tell 0 (n ∷ [])) next s ≡ kept (b .config) (afterAbort (tell 0 (n ∷ [])) (p .ticket) (settings (b .config)) (state b s))
-        → pendingAfter (tell 0 (n ∷ [])) next s q ≡ leaving b s p
-    drop-gives n next e d =
-        ap (pendingAfter (tell 0 (n ∷ [])) next s) left
-        ∙ ap (beside (pending (x .wait) (p .ticket))) d
+    pub drop-gives : (n : ℕ) (next : Breaker) → x .answer ≡ Dropped·is.GiveBack n → ((c : Config) (st : State) → b ≡ stored c st → next ≡ stored c (aborted (p .ticket) false st))
+        → pendingAfter (droppedTold (Dropped·is.GiveBack n)) next s q ≡ leaving b s p
+    drop-gives n next e h =
+        let told = droppedTold (Dropped·is.GiveBack n) in
+        ap (pendingAfter told next s) left
+        ∙ ap (beside (pending (x .wait) (p .ticket))) (given-back told (b .config) (p .ticket) false (state b s) next s (h (b .config) (state b s) (stored-state b s ok)) (padded-state b s ok))
         ∙ ap (λ (y : Dropped). droppedTo y (x .wait) b s p) (sym e)
         ∙ drop-is ok x is

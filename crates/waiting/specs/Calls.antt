@@ -70,7 +70,7 @@ starting reading clock limited timeout b s p = guarded (λ r. pendingAfter (refu
 -- the wait w is left
 abbrev pub finishes : Ending → Wait → ℕ → ℕ → Breaker → List ℕ → Pending → PendingAfter
 finishes e w reading capacity b s p =
-    beside (pending w (p .ticket)) (kept (b .config) (completes e reading capacity (p .ticket) (settings (b .config)) (state b s)))
+    beside (pending w (p .ticket)) (kept (b .config) (completes e reading capacity (p .ticket) (state b s)))
 
 abbrev pub turnedTo : Turned → Wait → ℕ → ℕ → Breaker → List ℕ → Pending → PendingAfter
 turnedTo (Turned·is.Next act) w reading capacity b s p = pendingAfter (awaitedTold (Awaited·is.Next act)) b s (pending w (p .ticket))
@@ -107,7 +107,7 @@ running turns limit reading capacity b s p =
 
 abbrev pub droppedTo : Dropped → Wait → Breaker → List ℕ → Pending → PendingAfter
 droppedTo (Dropped·is.GiveBack n) w b s p =
-    beside (pending w (p .ticket)) (kept (b .config) (afterAbort (droppedTold (Dropped·is.GiveBack n)) (p .ticket) (settings (b .config)) (state b s)))
+    beside (pending w (p .ticket)) (kept (b .config) (afterAbort (droppedTold (Dropped·is.GiveBack n)) (p .ticket) (state b s)))
 droppedTo (Dropped·is.Refused r) w b s p = pendingAfter (refused r) b s (pending w (p .ticket))
 
 unfoldable pub leaving : Breaker → List ℕ → Pending → PendingAfter

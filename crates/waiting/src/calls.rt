@@ -1,38 +1,29 @@
 // The calls of a wait before a breaker. Each tests storage and soundness first, then the wait; a refused one leaves the breaker as it was.
 ghost use mathlib.Core.Path.{_≡_};
-ghost use mathlib.Core.Bool.{true};
 ghost use mathlib.Core.List.{List};
 ghost use Prim.Native.Nat.{ℕ};
-ghost use Rattle.breaker.specs.Record.{settings, state, sound};
-ghost use Rattle.breaker.specs.Calls.{after, kept};
 ghost use Rattle.wait.specs.Answers.{droppedTold};
-ghost use Rattle.waiting.specs.Answers.{begunTold, completedTold, awaitedTold, courseTold};
-ghost use Rattle.waiting.specs.Rules.{completes};
+ghost use Rattle.waiting.specs.Answers.{begunTold, awaitedTold, courseTold};
 ghost use Rattle.waiting.specs.Calls as Calls;
 ghost use Rattle.waiting.specs.Calls.{pendingAfter, pendingRun, starting, turning, running, leaving};
 use crate::Awaited;
 use crate::Awaiting;
 use crate::Beginning;
 use crate::Begun;
-use crate::Completed;
-use crate::Completion;
 use crate::Course;
 use crate::Leaving;
 use crate::Pending;
 use crate::Proceeding;
 use crate::Progress;
+use crate::ends::complete;
 use breaker::Breaker;
-use breaker::Standing;
 use breaker::Tested;
-use breaker::Ticket;
-use breaker::still_admits;
 use breaker::test;
 use error::Refusal;
 use steps::Entry;
 use steps::abort_locked;
 use steps::admit_as_locked;
 use wait::Dropped;
-use wait::Ending;
 use wait::Observed;
 use wait::Ran;
 use wait::Started;
@@ -89,45 +80,6 @@ pub fn start(
     }
 }
 
-// What the end of a wait does to the breaker.
-fn complete(
-    breaker: Breaker,
-    list: &[u64],
-    ticket: Ticket,
-    ending: Ending,
-    now_ms: u64,
-    capacity: u32,
-) -> Completion
-    requires { ⌜ sound breaker (now list) ≡ true ⌝ }
-    ensures { λ r. ⌜ after (completedTold (r .answer)) (r .breaker) (now (list .entry)) ≡ kept (breaker .config) (completes ending «now_ms» capacity ticket (settings (breaker .config)) (state breaker (now (list .entry)))) ⌝ }
-{
-    match ending {
-        Ending::Deadline(back) => Completion {
-            answer: Completed::Deadline(back),
-            breaker: abort_locked(breaker, ticket, false),
-        },
-        Ending::Never => Completion {
-            answer: Completed::Impossible(1, capacity as u64),
-            breaker: abort_locked(breaker, ticket, false),
-        },
-        Ending::Done => match still_admits(breaker, list, now_ms, ticket) {
-            Standing::Admits => Completion {
-                answer: Completed::Admitted(ticket),
-                breaker,
-            },
-            Standing::Shed(d) => Completion {
-                answer: Completed::Shed(d, 1),
-                breaker: abort_locked(breaker, ticket, false),
-            },
-            // never met: the breaker is sound
-            Standing::Refused(_r) => Completion {
-                answer: Completed::Deadline(1),
-                breaker,
-            },
-        },
-    }
-}
-
 // One turn. One that ends the wait completes it: admitted, if the breaker still admits the ticket at this reading; else the ticket is aborted.
 // Ruled out: a completion that skips the abort; one that admits whatever the breaker has become.
 pub fn turn(
@@ -162,7 +114,7 @@ pub fn turn(
                     pending: next,
                 },
                 Turned::Ends(ending) => {
-                    let done = complete(breaker, list, pending.ticket, ending, now_ms, capacity);
+                    let done = complete(breaker, pending.ticket, ending, now_ms, capacity);
                     let told = done.answer;
                     let left = done.breaker;
                     Awaiting {
@@ -213,7 +165,7 @@ pub fn run(
                 Ran::Unfinished => proceeding(Course::Unfinished, taken, breaker, next),
                 Ran::Refused(r) => proceeding(Course::Refused(r), taken, breaker, next),
                 Ran::Ends(ending) => {
-                    let done = complete(breaker, list, pending.ticket, ending, now_ms, capacity);
+                    let done = complete(breaker, pending.ticket, ending, now_ms, capacity);
                     let told = done.answer;
                     let left = done.breaker;
                     proceeding(Course::Ends(told), taken, left, next)

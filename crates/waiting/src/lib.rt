@@ -1,5 +1,6 @@
 // A wait before a breaker (`admit_waiting` and `SlotGuard` of circuit.rs): admission, turns, completion, drop.
 mod calls;
+mod ends;
 
 use breaker::Breaker;
 use breaker::Delay;

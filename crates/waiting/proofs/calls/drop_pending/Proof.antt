@@ -4,10 +4,8 @@ use mathlib.Core.Bool.{true}
 use borrow.Author.Needs.{needs}
 use Rattle.breaker.specs.Record.{sound}
 use Rattle.breaker.proofs.Guard.{tested-sound}
-use mathlib.Core.List.{[], _∷_}
-use Rattle.error.specs.Told.{tell}
 use Rattle.wait.proofs.OneToOne.{dropping-one}
-use Rattle.waiting.proofs.Steps.{aborted, drop-tested, drop-refused, drop-gives}
+use Rattle.waiting.proofs.Steps.{drop-tested, drop-refused, drop-gives}
 use Rattle.waiting.proofs.calls.drop_pending.Statement.{statement}
 use Rattle.waiting.proofs.calls.drop_pending.Tie as tie
 
@@ -64,10 +62,9 @@ same-length-3 c = search needs
 returns-3 : tie.Need-returns-3
 returns-3 c =
     let args = c .before .before .before .before .before .before .before .before .before .before .before .args in
-    let before = c .before .before .before .before .before .before in
     let drop-wait = c .before .before .before .before .before .drop-wait in
     let with-wait = c .before .before .before .before .with-wait in
-    drop-gives (args .breaker) (args .list .now) (args .pending) (sound-now before) (drop-wait .result) (dropping-one _ _ (drop-wait .ensures)) (with-wait .result) (with-wait .ensures) (c .before .before .answer2 .given .0 .0) (c .abort-locked .result) (c .before .before .answer2 .given .1) (aborted (tell 0 (c .before .before .answer2 .given .0 .0 ∷ [])) (args .pending .ticket) (args .breaker) (c .abort-locked .result) (args .list .now) (sound-now before) (c .abort-locked .ensures))
+    drop-gives (args .breaker) (args .list .now) (args .pending) (sound-now (c .before .before .before .before .before .before)) (drop-wait .result) (dropping-one _ _ (drop-wait .ensures)) (with-wait .result) (with-wait .ensures) (c .before .before .answer2 .given .0 .0) (c .abort-locked .result) (c .before .before .answer2 .given .1) (c .abort-locked .ensures)
 
 pub drop-pending-spec : {M : Type 1} → statement M
 drop-pending-spec =

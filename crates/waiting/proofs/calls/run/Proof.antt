@@ -56,7 +56,7 @@ enum-known-answer-2 : tie.Need-enum-known-answer-2
 enum-known-answer-2 c = search needs
 
 complete-requires : tie.Need-complete-requires
-complete-requires c κs = (sound-now (c .before .before .before .before .before .before))
+complete-requires c κs = search needs
 
 proceeding-requires-5 : tie.Need-proceeding-requires-5
 proceeding-requires-5 c κs = search needs
@@ -97,13 +97,13 @@ same-length-4 c = search needs
 
 returns-5 : tie.Need-returns-5
 returns-5 c =
-    let args = c .before .before .before .before .before .before .before .before .before .before .before .before .before .before .before .before .args in
-    let if1 = c .before .before .before .before .before .before .before .before .before .before .before .before .before .if1 in
-    let before = c .before .before .before .before .before .before .before .before .before in
-    let run = c .before .before .before .before .before .before .before .before .run in
-    let with-wait = c .before .before .before .before .before .before .before .with-wait in
-    let answer2 = c .before .before .before .before .before .answer2 in
-    c .proceeding5 .ensures (args .list .now) ∙ run-ends (args .turns .now) (args .limit) (args .now-ms) (args .capacity) (args .breaker) (args .list .now) (args .pending) (if1 .left) (sound-now before) (run .result) (running-one _ _ (run .ensures)) (with-wait .result) (with-wait .ensures) (answer2 .given .0 .0) _ (answer2 .given .1) (c .before .before .complete .ensures)
+    let args = c .before .before .before .before .before .before .before .before .before .before .before .before .before .before .before .args in
+    let if1 = c .before .before .before .before .before .before .before .before .before .before .before .before .if1 in
+    let before = c .before .before .before .before .before .before .before .before in
+    let run = c .before .before .before .before .before .before .before .run in
+    let with-wait = c .before .before .before .before .before .before .with-wait in
+    let answer2 = c .before .before .before .before .answer2 in
+    c .proceeding5 .ensures (args .list .now) ∙ run-ends (args .turns .now) (args .limit) (args .now-ms) (args .capacity) (args .breaker) (args .list .now) (args .pending) (if1 .left) (sound-now before) (run .result) (running-one _ _ (run .ensures)) (with-wait .result) (with-wait .ensures) (answer2 .given .0 .0) _ _ (answer2 .given .1) (c .before .before .complete .ensures)
 
 pub run-spec : {M : Type 1} → statement M
 run-spec =

@@ -39,7 +39,7 @@ enum-known-answer-3 : tie.Need-enum-known-answer-3
 enum-known-answer-3 c = search needs
 
 complete-requires : tie.Need-complete-requires
-complete-requires c κs = (sound-now (c .before .before .before .before .before .before))
+complete-requires c κs = search needs
 
 same-length : tie.Need-same-length
 same-length c = search needs
@@ -74,12 +74,12 @@ same-length-4 c = search needs
 
 returns-4 : tie.Need-returns-4
 returns-4 c =
-    let args = c .before .before .before .before .before .before .before .before .before .before .before .before .before .args in
-    let before = c .before .before .before .before .before .before .before .before in
-    let turn = c .before .before .before .before .before .before .before .turn in
-    let with-wait = c .before .before .before .before .before .before .with-wait in
-    let answer3 = c .before .before .before .before .answer3 in
-    turn-ends (args .turn) (args .now-ms) (args .capacity) (args .breaker) (args .list .now) (args .pending) (sound-now before) (turn .result) (turning-one _ _ (turn .ensures)) (with-wait .result) (with-wait .ensures) (answer3 .given .0 .0) _ (answer3 .given .1) (c .before .complete .ensures)
+    let args = c .before .before .before .before .before .before .before .before .before .before .before .before .args in
+    let before = c .before .before .before .before .before .before .before in
+    let turn = c .before .before .before .before .before .before .turn in
+    let with-wait = c .before .before .before .before .before .with-wait in
+    let answer3 = c .before .before .before .answer3 in
+    turn-ends (args .turn) (args .now-ms) (args .capacity) (args .breaker) (args .list .now) (args .pending) (sound-now before) (turn .result) (turning-one _ _ (turn .ensures)) (with-wait .result) (with-wait .ensures) (answer3 .given .0 .0) _ _ (answer3 .given .1) (c .before .complete .ensures)
 
 pub turn-spec : {M : Type 1} → statement M
 turn-spec =
