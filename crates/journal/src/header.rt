@@ -10,13 +10,15 @@ use lines::Header;
 use trip::CircuitBreakerBuilder;
 use trip::Config;
 use trip::Duration;
+use trip::INFINITY_BITS;
+use trip::SIGN_BIT;
 use trip::Trip;
 
 // The ratio of the given bits. A NaN's become 1.0 here, as normalising makes of it.
 fn ratio_of(bits: u64) -> f64
     ensures { λ r. ⌜ clampedRatio r ≡ clampedRatio (ofBits binary64 bits) ⌝ }
 {
-    if bits % 0x8000_0000_0000_0000 > 0x7ff0_0000_0000_0000 {
+    if bits % SIGN_BIT > INFINITY_BITS {
         return 1.0;
     }
     f64::from_bits(bits)
