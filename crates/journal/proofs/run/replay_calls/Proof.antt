@@ -1,4 +1,4 @@
--- `journal::run::replay_calls` meets its contract. The loop's invariant: the breaker is sound and has the first one's settings; there is room, 38 bytes for each byte to read; nothing past the answer is written; and whatever answers the rest completes the answer. Assumes nothing.
+-- `journal::run::replay_calls` meets its contract. The loop's invariant: the breaker is sound and has the first one's settings; there is room, 23 bytes for each byte to read; nothing past the answer is written; and whatever answers the rest completes the answer. Assumes nothing.
 use Prim.Native.Nat.{_≤_, _+_, _*_}
 use mathlib.Core.Path.{_≡_, refl, ap, _∙_}
 use mathlib.Core.Bool.{true}
@@ -12,12 +12,13 @@ use Rattle.lines.specs.Print.{printCall, CallFits}
 use Rattle.journal.specs.Replay.{called, malformedLine, Replays, finished, malformed}
 use Rattle.journal.specs.Steps.{lineBy, Says}
 use Rattle.journal.proofs.Stepping.{stepped}
+use Rattle.journal.proofs.Short.{Shown, step-short, shown}
 use Rattle.journal.proofs.Replaying.{So, turn, last, kept, call-long, not-call}
 use Rattle.journal.proofs.run.replay_calls.Statement.{statement}
 use Rattle.journal.proofs.run.replay_calls.Tie as tie
 
 abbrev Inv-loop : tie.InvT-loop
-Inv-loop s at more list₀ out₀ breaker₀ next₀ end₀ line₀ list out breaker next end line = (sound breaker list ≡ true) × (breaker .config ≡ breaker₀ .config) × (length list ≡ length list₀) × (end + 38 * length (drop next s) ≤ 38 * length s) × (line + length (drop next s) ≤ 2 + length s) × (length out ≡ length out₀) × (drop end out ≡ drop end out₀) × So more (settings (breaker₀ .config)) (state breaker₀ list₀) (drop at s) s out next end line (state breaker list)
+Inv-loop s at more list₀ out₀ breaker₀ next₀ end₀ line₀ list out breaker next end line = (sound breaker list ≡ true) × (breaker .config ≡ breaker₀ .config) × (length list ≡ length list₀) × (end + 23 * length (drop next s) ≤ 23 * length s) × (line + length (drop next s) ≤ 2 + length s) × (length out ≡ length out₀) × (drop end out ≡ drop end out₀) × So more (settings (breaker₀ .config)) (state breaker₀ list₀) (drop at s) s out next end line (state breaker list)
 
 abbrev μ-loop : tie.MeasureT-loop
 μ-loop s at more list₀ out₀ breaker₀ next₀ end₀ line₀ list out breaker next end line = length (drop next s)
@@ -75,6 +76,11 @@ left c =
     let l = c .before .before .before .before .before .before .before .loop in
     stepped (c .before .before .before .read .given .0 .0) (l .breaker) (l .list) (c .step .last .1 .0) (c .step .result) (c .before .before .before .before .before .before .before .before .before .before .before .args .start .config) (l .inv .1) (l .inv .0) (c .step .ensures)
 
+widths : (c : tie.After-step Inv-loop μ-loop) → Shown (state (c .step .result .breaker) (c .step .last .1 .0))
+widths c =
+    let ok = c .step .ok in
+    shown (c .step .result .breaker) (c .step .last .1 .0) (left c .0) (omega (arith, ok)) (omega (arith, ok)) (omega (arith, ok)) (omega (arith, ok))
+
 write-answer-requires : tie.Need-write-answer-requires Inv-loop μ-loop
 write-answer-requires c κs = (omega (arith, c .before .before .before .before .before .before .before .before .before .before .before .before .loop .inv .3, c .before .before .before .before .before .before .before .before .before .before .before .before .loop .inv .5, c .before .before .before .before .before .before .before .before .before .before .before .before .before .before .before .before .pre .0), left (c .before .before .before .before .before) .3 .0)
 
@@ -96,11 +102,12 @@ loop-again c =
     let b = c .before .before .before .before .before .before .before .before .step .result .breaker in
     let st = state b (c .before .before .before .before .before .before .before .before .step .last .1 .0) in
     let xs = lineBy (c .before .before .before .before .before .before .before .before .step .result .answer) st in
-    let h : w .result ≤ length (l .out) = omega (arith, w .ensures .1 .1, l .inv .3, l .inv .5, c .before .before .before .before .before .before .before .before .before .before .before .before .before .before .before .before .before .before .before .pre .0) in (
+    let h : w .result ≤ length (l .out) = omega (arith, w .ensures .1 .1, l .inv .3, l .inv .5, c .before .before .before .before .before .before .before .before .before .before .before .before .before .before .before .before .before .before .before .pre .0) in
+    let z = step-short d (settings (a .start .config)) (state (l .breaker) (l .list)) st (c .before .before .before .before .before .before .before .before .step .result .answer) (t .1) (t .3) (widths (c .before .before .before .before .before .before .before .before)) in (
       t .0,
       t .2,
       c .before .before .before .before .before .before .before .before .step .kept .1 .0 ∙ l .inv .2,
-      omega (arith, w .ensures .1 .1, l .inv .3),
+      omega (arith, w .ensures .0, z, l .inv .3),
       omega (arith, l .inv .4),
       w .kept .0 ∙ l .inv .5,
       kept (l .out) (w .last .0) (a .out .now) (l .end) (w .result) xs (w .ensures .0) (w .ensures .1 .0) h (l .inv .6),
