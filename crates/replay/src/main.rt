@@ -1,4 +1,5 @@
 // Replays the journal on standard input to standard output. Where that fails it says so on standard error.
+// The file stdin is document 01's case, filled to the limit, and a line more; stdout is the Rust's answer (`journal past_the_limit` of oracle/).
 ghost use Prim.Native.Nat.{_≤_};
 ghost use lib.ListN.{length};
 ghost use Rattle.replay.specs.Reading.{Came};
