@@ -9,8 +9,8 @@ mod step;
 mod write;
 
 use breaker::Breaker;
-use breaker::PLACES;
 use error::Refusal;
+use history::PLACES;
 use run::replay_all;
 
 // The bytes that a journal may have.

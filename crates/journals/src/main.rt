@@ -4,7 +4,7 @@
 ghost use mathlib.Core.Path.{_≡_};
 ghost use Prim.Native.Nat.{_≤_, _<_, min};
 ghost use lib.ListN.{length};
-use breaker::PLACES;
+use history::PLACES;
 use journal::ROOM;
 use journal::Replayed;
 use libc::STDIN_FILENO;

@@ -3,7 +3,7 @@
 ghost use Prim.Native.Nat.{_≤_};
 ghost use lib.ListN.{length};
 ghost use Rattle.replay.specs.Reading.{Came};
-use breaker::PLACES;
+use history::PLACES;
 use journal::READ;
 use journal::ROOM;
 use libc::STDERR_FILENO;
