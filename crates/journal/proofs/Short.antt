@@ -8,12 +8,13 @@ use lib.ListN.{length, length-append}
 use Rattle.error.specs.Choice.{bit}
 use Rattle.error.specs.Told.{refused}
 use Rattle.error.specs.declared.Refusal.the-variants.{Full}
+use Rattle.breaker.specs.declared.Ticket.{Ticket}
 use Rattle.breaker.specs.declared.Breaker.{Breaker}
 use Rattle.breaker.specs.Record.{Settings, State, state, sound}
-use Rattle.breaker.specs.Rules.{Outcome, outcome, done, withCounts, halfOpening, granted, shed, viaTrait, success, failure, abort, traitAbort, inClosed, finish, settling, aborting}
+use Rattle.breaker.specs.Rules.{Outcome, outcome, done, withCounts, oneMoreTrial, halfOpening, granted, shed, viaTrait, inClosed, settled}
 use Rattle.breaker.specs.Rules as Rules
 use Rattle.breaker.specs.Calls.{answered, admission}
-use Rattle.breaker.proofs.Cases.{admit-cases, finish-cases, failure-cases}
+use Rattle.breaker.proofs.Cases.{admit-cases, settled-cases, failure-cases}
 use Rattle.breaker.proofs.Record.{sound→, shared→}
 use Rattle.lines.specs.declared.Call.{Call}
 use Rattle.lines.specs.declared.Call.the-variants.{Admit, Success, Failure, Abort, Reset}
@@ -27,8 +28,8 @@ use Rattle.journal.proofs.Laid.{length-decimal}
 pub record Shown (st : State) : Type 0 where
   pub code : st .state < 10
   pub generation : st .generation < 2 ^ 64
-  pub inflight : st .inflight < 2 ^ 32
-  pub successes : st .successes < 2 ^ 32
+  pub inflight : st .counts .inflight < 2 ^ 32
+  pub successes : st .counts .successes < 2 ^ 32
   pub openUntil : st .openUntil < 2 ^ 64
 
 wide : (n : ℕ) → n < 2 ^ 64 → length (printDecimal n) ≤ 20
@@ -50,7 +51,7 @@ five-short : (st : State) → Shown st → length (printFields (five st)) ≤ 66
 unfolding printFields
 five-short st h =
     simp length-append
-    (omega (arith, length-decimal (st .state) 0 (h .code), wide (st .generation) (h .generation), narrow (st .inflight) (h .inflight), narrow (st .successes) (h .successes), wide (st .openUntil) (h .openUntil)))
+    (omega (arith, length-decimal (st .state) 0 (h .code), wide (st .generation) (h .generation), narrow (st .counts .inflight) (h .inflight), narrow (st .counts .successes) (h .successes), wide (st .openUntil) (h .openUntil)))
 
 -- ---- an outcome whose line is short
 abbrev pub Short : Outcome → Type 0
@@ -72,23 +73,21 @@ shed-short st ms l h = simp (length-append, field ms (five st)) (omega (arith, f
 admit-short : (t : ℕ) (S : Settings) (st : State) → Short (admission false t S st)
 admit-short t S st =
     admit-cases (λ a. Short (answered (viaTrait false a) st)) S t st (granted-short st st false) (granted-short st (halfOpening st) true) (shed-short st (st .openUntil - t) (omega arith))
-    (λ c o i. granted-short st (withCounts (st .inflight + 1) (st .traitProbes) (st .successes) st) true) (shed-short st 0 (omega arith))
+    (λ c o i. granted-short st (withCounts (oneMoreTrial (st .counts)) st) true) (shed-short st 0 (omega arith))
 
-closed-short : (S : Settings) (reading : ℕ) (call : Rules.Call) (st : State) → Short (inClosed S reading call st)
+closed-short : (S : Settings) (reading : ℕ) (good : Bool) (st : State) → Short (inClosed S reading good st)
 unfolding inClosed
-closed-short S reading (success t) st = done-short _
-closed-short S reading (failure t) st = failure-cases Short S reading st t (full-short st) (λ r. done-short _) (λ r. done-short _)
-closed-short S reading (abort t) st = done-short st
-closed-short S reading (traitAbort t) st = done-short st
+closed-short S reading true st = done-short _
+closed-short S reading false st = failure-cases Short S reading st (full-short st) (λ r. done-short _) (λ r. done-short _)
 
-finish-short : (S : Settings) (reading : ℕ) (call : Rules.Call) (st : State) → Short (finish S reading call st)
-finish-short S reading call st = finish-cases Short S reading st call (done-short st) (λ h. done-short _) (λ c. closed-short S reading call st)
+settled-short : (S : Settings) (reading : ℕ) (t : Ticket) (good : Bool) (st : State) → Short (settled S reading t good st)
+settled-short S reading t good st = settled-cases Short S reading st t good (done-short st) (λ h. done-short _) (λ c. closed-short S reading good st)
 
 pub called-short : (c : Call) (S : Settings) (st : State) → Short (called c S st)
 called-short (Admit t) S st = admit-short t S st
-called-short (Success t g p) S st = finish-short S t (settling (ticketOf g p) true) st
-called-short (Failure t g p) S st = finish-short S t (settling (ticketOf g p) false) st
-called-short (Abort t g p) S st = finish-short S 0 (aborting (ticketOf g p) false) st
+called-short (Success t g p) S st = settled-short S t (ticketOf g p) true st
+called-short (Failure t g p) S st = settled-short S t (ticketOf g p) false st
+called-short (Abort t g p) S st = done-short _
 called-short (Reset t) S st = done-short _
 
 -- what a step answers
@@ -99,6 +98,6 @@ step-short c S st st' a e says h =
 
 -- a sound record's fields, once they are within their widths
 pub shown : (b : Breaker) (s : List ℕ) → sound b s ≡ true → let st = state b s in
-    st .generation < 2 ^ 64 → st .inflight < 2 ^ 32 → st .successes < 2 ^ 32 → st .openUntil < 2 ^ 64 → Shown st
+    st .generation < 2 ^ 64 → st .counts .inflight < 2 ^ 32 → st .counts .successes < 2 ^ 32 → st .openUntil < 2 ^ 64 → Shown st
 shown b s ok g i n u =
     record { code = omega (arith, shared→ (b .config) (b .shared) (sound→ b s ok .shared) .code); generation = g; inflight = i; successes = n; openUntil = u }
