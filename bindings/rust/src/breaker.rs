@@ -5,6 +5,7 @@ use std::sync::{Mutex, MutexGuard, PoisonError};
 use crate::builder::CircuitBreakerBuilder;
 use crate::clock::{Clock, SystemClock};
 use crate::decision::Decision;
+use crate::ffi::state;
 use crate::owned::Owned;
 use crate::permit::Permit;
 use crate::refused::Refused;
@@ -18,6 +19,17 @@ pub enum BreakerState {
     HalfOpen,
     /// Calls are shed.
     Open,
+}
+
+impl BreakerState {
+    /// The state of this code, in a sound record.
+    pub(crate) fn of(code: u8) -> Self {
+        match code {
+            state::CLOSED => Self::Closed,
+            state::HALF_OPEN => Self::HalfOpen,
+            _ => Self::Open,
+        }
+    }
 }
 
 /// A circuit breaker timed by the clock `C`. Threads share it by reference: one lock guards it, and
@@ -67,11 +79,7 @@ impl<C: Clock> CircuitBreaker<C> {
     /// [`Open`](BreakerState::Open) until the next admission.
     #[must_use]
     pub fn state(&self) -> BreakerState {
-        match self.lock().record.shared.state {
-            0 => BreakerState::Closed,
-            1 => BreakerState::HalfOpen,
-            _ => BreakerState::Open,
-        }
+        BreakerState::of(self.lock().record.shared.state)
     }
 
     /// Admits a call without waiting, given the reply of the inner limiter to a request of 1 unit.

@@ -4,7 +4,7 @@ use std::sync::Mutex;
 
 use crate::breaker::CircuitBreaker;
 use crate::clock::Clock;
-use crate::ffi::Setting;
+use crate::ffi::{policy, Setting};
 use crate::owned::Owned;
 use crate::refused::Refused;
 
@@ -38,7 +38,7 @@ impl Trip {
     fn setting(self) -> Setting {
         match self {
             Self::Consecutive(n) => Setting {
-                kind: 1,
+                kind: policy::CONSECUTIVE,
                 limit: n,
                 ..Setting::default()
             },
@@ -47,14 +47,14 @@ impl Trip {
                 ratio,
                 min_calls,
             } => Setting {
-                kind: 2,
+                kind: policy::RATIO,
                 limit: window,
                 ratio,
                 min_calls,
                 ..Setting::default()
             },
             Self::Windowed { failures, period } => Setting {
-                kind: 3,
+                kind: policy::WINDOWED,
                 limit: failures,
                 period_secs: period.as_secs(),
                 period_nanos: period.subsec_nanos(),

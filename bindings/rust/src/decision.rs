@@ -1,6 +1,8 @@
 //! The reply of an inner limiter.
 use core::time::Duration;
 
+use crate::ffi::decision::{ACQUIRED, IMPOSSIBLE, RETRY};
+
 /// What the inner limiter, which stands behind the breaker, replied to a request of 1 unit.
 #[derive(Debug, Clone, Copy, PartialEq, Eq, Hash)]
 pub enum Decision {
@@ -22,9 +24,12 @@ impl Decision {
     /// Kind, milliseconds and capacity, as the C interface takes them.
     pub(crate) fn numbers(self) -> (u8, u64, u32) {
         match self {
-            Self::Acquired => (1, 0, 0),
-            Self::Retry { after } => (2, u64::try_from(after.as_millis()).unwrap_or(u64::MAX), 0),
-            Self::Impossible { capacity } => (3, 0, capacity),
+            Self::Acquired => (ACQUIRED, 0, 0),
+            Self::Retry { after } => {
+                let ms = u64::try_from(after.as_millis()).unwrap_or(u64::MAX);
+                (RETRY, ms, 0)
+            }
+            Self::Impossible { capacity } => (IMPOSSIBLE, 0, capacity),
         }
     }
 }

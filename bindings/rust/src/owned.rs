@@ -29,7 +29,7 @@ impl Owned {
         })?;
         Ok(Ticket {
             generation: told.v1,
-            probe: told.v2 == 1,
+            probe: u8::from(told.v2 == 1),
         })
     }
 
@@ -63,7 +63,7 @@ impl Owned {
 
     pub(crate) fn record_manual(&mut self, now_ms: u64, success: bool) -> Result<(), Refused> {
         self.change(|b, list, n| unsafe {
-            ffi::pudvirez_record_manual(b, list, n, now_ms, success)
+            ffi::pudvirez_record_manual(b, list, n, now_ms, success.into())
         })?;
         Ok(())
     }
@@ -93,7 +93,7 @@ impl Owned {
         let (limited, timeout) = (timeout.is_some(), timeout.unwrap_or(0));
         let mut pending = Pending::default();
         let told = self.wait(&mut pending, |b, list, n, p| unsafe {
-            ffi::pudvirez_wait_start(b, list, n, p, now_ms, clock, limited, timeout)
+            ffi::pudvirez_wait_start(b, list, n, p, now_ms, clock, limited.into(), timeout)
         });
         checked_wait(told)?;
         Ok(pending)

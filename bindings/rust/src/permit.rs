@@ -29,7 +29,7 @@ impl<'a, C: Clock> Permit<'a, C> {
     /// Whether it is a trial of a half-open breaker.
     #[must_use]
     pub fn is_trial(&self) -> bool {
-        self.ticket.probe
+        self.ticket.probe != 0
     }
 
     /// Records that the call succeeded.
@@ -87,7 +87,7 @@ impl<C: Clock> Drop for Permit<'_, C> {
 impl<C: Clock> fmt::Debug for Permit<'_, C> {
     fn fmt(&self, f: &mut fmt::Formatter<'_>) -> fmt::Result {
         f.debug_struct("Permit")
-            .field("trial", &self.ticket.probe)
+            .field("trial", &self.is_trial())
             .finish_non_exhaustive()
     }
 }

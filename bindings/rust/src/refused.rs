@@ -2,7 +2,7 @@
 use core::fmt;
 use core::time::Duration;
 
-use crate::ffi::{Told, Waited};
+use crate::ffi::{told as number, Told, Waited};
 
 /// Why a call was refused, with the number of document 01's table.
 ///
@@ -57,16 +57,16 @@ impl Refused {
     #[must_use]
     pub const fn number(&self) -> u32 {
         match self {
-            Self::Nanoseconds => 1,
-            Self::TooWide => 2,
-            Self::Places => 3,
-            Self::NotSound => 4,
-            Self::TimesFull => 5,
-            Self::CircuitOpen { .. } => 6,
-            Self::InnerRetry => 7,
-            Self::CostExceedsCapacity { .. } => 8,
-            Self::DeadlineExceeded => 9,
-            Self::UnknownReply => 11,
+            Self::Nanoseconds => number::TIME,
+            Self::TooWide => number::LIMIT,
+            Self::Places => number::STORAGE,
+            Self::NotSound => number::UNSOUND,
+            Self::TimesFull => number::FULL,
+            Self::CircuitOpen { .. } => number::CIRCUIT_OPEN,
+            Self::InnerRetry => number::INNER_RETRY,
+            Self::CostExceedsCapacity { .. } => number::COST_EXCEEDS_CAPACITY,
+            Self::DeadlineExceeded => number::DEADLINE_EXCEEDED,
+            Self::UnknownReply => number::TURN,
         }
     }
 }
@@ -102,34 +102,35 @@ impl std::error::Error for Refused {}
 /// What was told, if it is no refusal.
 pub(crate) fn checked(told: Told) -> Result<Told, Refused> {
     Err(match told.number {
-        0 => return Ok(told),
-        1 => Refused::Nanoseconds,
-        2 => Refused::TooWide,
-        3 => Refused::Places,
-        4 => Refused::NotSound,
-        5 => Refused::TimesFull,
-        6 => Refused::CircuitOpen {
+        number::OK => return Ok(told),
+        number::TIME => Refused::Nanoseconds,
+        number::LIMIT => Refused::TooWide,
+        number::STORAGE => Refused::Places,
+        number::UNSOUND => Refused::NotSound,
+        number::FULL => Refused::TimesFull,
+        number::CIRCUIT_OPEN => Refused::CircuitOpen {
             retry_after: Duration::from_millis(told.v1),
         },
-        7 => Refused::InnerRetry,
-        8 => Refused::CostExceedsCapacity {
+        number::INNER_RETRY => Refused::InnerRetry,
+        number::COST_EXCEEDS_CAPACITY => Refused::CostExceedsCapacity {
             cost: told.v1,
             capacity: told.v2,
         },
-        11 => Refused::UnknownReply,
+        number::TURN => Refused::UnknownReply,
         other => unreachable!("the C interface tells no number {other}"),
     })
 }
 
 /// What a call of a wait was told, if it is no refusal.
 pub(crate) fn checked_wait(told: Waited) -> Result<Waited, Refused> {
-    if told.number == 9 {
+    if told.number == number::DEADLINE_EXCEEDED {
         return Err(Refused::DeadlineExceeded);
     }
     checked(Told {
         number: told.number,
         v1: told.v1,
         v2: told.v2,
+        v3: told.v3,
     })?;
     Ok(told)
 }

@@ -4,7 +4,9 @@ use core::time::Duration;
 
 use crate::breaker::{told, CircuitBreaker};
 use crate::clock::Clock;
-use crate::ffi::{Pending, Ticket, Turn, Waited};
+use crate::ffi::phase::{HOLDING, LOOKING};
+use crate::ffi::reply::{GRANTED, NEVER, RETRY};
+use crate::ffi::{act, told as number, Pending, Ticket, Turn, Waited};
 use crate::permit::Permit;
 use crate::refused::{checked_wait, Refused};
 
@@ -221,9 +223,9 @@ impl<'a, C: Clock, H: Host> Waiting<'a, C, H> {
             .lock()
             .wait_turn(&mut self.pending, turn, now_ms, capacity);
         let back = match told.number {
-            6 => told.v2,
-            9 => told.v1,
-            1 => u64::from(looked && turn.kind == GRANTED),
+            number::CIRCUIT_OPEN => told.v2,
+            number::DEADLINE_EXCEEDED => told.v1,
+            number::TIME => u64::from(looked && turn.kind == GRANTED),
             _ => 0,
         };
         self.give_back(back);
@@ -270,14 +272,14 @@ impl<'a, C: Clock, H: Host> Waiting<'a, C, H> {
     fn follow(&mut self, told: Waited) -> Option<Permit<'a, C>> {
         let nap = Duration::from_nanos(told.v2);
         match told.v1 {
-            1 => self.host.sleep(nap),
-            2 => self.host.sleep_unless_resumed(nap, told.v3),
-            3 => self.host.yield_now(),
-            4 => {}
+            act::SLEEP => self.host.sleep(nap),
+            act::SLEEP_UNLESS_RESUMED => self.host.sleep_unless_resumed(nap, told.v3),
+            act::YIELD => self.host.yield_now(),
+            act::LOOK_AGAIN => {}
             _ => {
                 let ticket = Ticket {
                     generation: told.v2,
-                    probe: told.v3 == 1,
+                    probe: u8::from(told.v3 == 1),
                 };
                 return Some(Permit::new(self.breaker, ticket));
             }
@@ -315,13 +317,6 @@ impl<C: Clock, H: Host> fmt::Debug for Waiting<'_, C, H> {
             .finish_non_exhaustive()
     }
 }
-
-const LOOKING: u64 = 1;
-const HOLDING: u64 = 2;
-
-const GRANTED: u64 = 1;
-const RETRY: u64 = 2;
-const NEVER: u64 = 3;
 
 impl Reply {
     /// Kind and nanoseconds, as the C interface takes them.

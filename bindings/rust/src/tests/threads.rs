@@ -80,7 +80,7 @@ fn admitting_and_settling_at_once() {
         }
     });
     let end = snapshot(&b);
-    assert_eq!(end.record.shared.inflight, 0);
+    assert_eq!(end.record.shared.counts.inflight, 0);
     assert!(end.record.shared.generation > 0);
     assert!(end.is_sound());
 }
