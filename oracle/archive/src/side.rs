@@ -92,7 +92,7 @@ impl Side {
                 &mut self.pending,
                 start.now_ms,
                 start.clock,
-                start.limited,
+                start.limited.into(),
                 start.timeout,
             )
         }
