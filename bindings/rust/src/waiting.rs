@@ -117,12 +117,15 @@ impl<H: Host + ?Sized> Host for &mut H {
 }
 
 /// A call that was admitted and waits for the inner limiter. Dropped before its end it gives its
-/// admission back to the breaker, and a granted unit to the host.
+/// admission back to the breaker, and a granted unit to the host: also where the host, or the breaker's
+/// clock, panics in the middle of a turn.
 #[must_use = "take its turns; dropping it gives the admission back"]
 pub struct Waiting<'a, C: Clock, H: Host> {
     breaker: &'a CircuitBreaker<C>,
     host: H,
     pub(crate) pending: Pending,
+    /// A unit that the limiter granted, and no turn has been told of yet.
+    in_hand: bool,
 }
 
 impl<C: Clock> CircuitBreaker<C> {
@@ -200,6 +203,7 @@ impl<C: Clock> CircuitBreaker<C> {
             breaker: self,
             host,
             pending,
+            in_hand: false,
         })
     }
 }
@@ -214,19 +218,23 @@ impl<'a, C: Clock, H: Host> Waiting<'a, C, H> {
     /// as it was, and a unit that the turn's reply granted has been refunded; after the others the wait has
     /// ended. A turn of an ended wait is refused with [`Refused::UnknownReply`], and asks for nothing.
     pub fn turn(&mut self) -> Result<Option<Permit<'a, C>>, Refused> {
+        // of a turn that a panic cut short
+        let left = core::mem::take(&mut self.in_hand);
+        self.give_back(left.into());
         let turn = self.read();
         let capacity = self.host.capacity();
         let now_ms = self.breaker.now_ms();
-        let looked = self.pending.wait.phase == LOOKING;
         let told = self
             .breaker
             .lock()
             .wait_turn(&mut self.pending, turn, now_ms, capacity);
+        // The wait holds it from now on, or it is among what goes back.
+        let granted = core::mem::take(&mut self.in_hand);
         let back = match told.number {
+            number::OK | number::COST_EXCEEDS_CAPACITY => 0,
             number::CIRCUIT_OPEN => told.v2,
             number::DEADLINE_EXCEEDED => told.v1,
-            number::TIME => u64::from(looked && turn.kind == GRANTED),
-            _ => 0,
+            _ => granted.into(),
         };
         self.give_back(back);
         Ok(self.follow(checked_wait(told)?))
@@ -238,7 +246,9 @@ impl<'a, C: Clock, H: Host> Waiting<'a, C, H> {
         let postponed_before = nanos(self.host.postponed());
         let clock = nanos(self.host.now());
         let (kind, duration) = if self.pending.wait.phase == LOOKING {
-            self.host.ask(self.remaining(clock)).numbers()
+            let reply = self.host.ask(self.remaining(clock));
+            self.in_hand = matches!(reply, Reply::Granted { .. });
+            reply.numbers()
         } else {
             (GRANTED, 0)
         };
@@ -305,8 +315,10 @@ impl<C: Clock, H: Host> Drop for Waiting<'_, C, H> {
         if !matches!(self.pending.wait.phase, LOOKING | HOLDING) {
             return;
         }
-        let units = told(self.breaker.lock().wait_drop(&mut self.pending));
-        self.give_back(units);
+        // One that looks holds nothing; its turn's unit may be in hand.
+        let in_hand = core::mem::take(&mut self.in_hand);
+        let held = told(self.breaker.lock().wait_drop(&mut self.pending));
+        self.give_back(held + u64::from(in_hand));
     }
 }
 

@@ -4,6 +4,7 @@ mod flags;
 mod layout;
 mod misuse;
 mod orders;
+mod panics;
 mod threads;
 mod wait_rows;
 mod waits;
