@@ -4,11 +4,12 @@ use core::time::Duration;
 
 use crate::breaker::{told, CircuitBreaker};
 use crate::clock::Clock;
+use crate::error::{checked_wait, units, ThrottleError};
 use crate::ffi::phase::{HOLDING, LOOKING};
 use crate::ffi::reply::{GRANTED, NEVER, RETRY};
-use crate::ffi::{act, told as number, Pending, Ticket, Turn, Waited};
+use crate::ffi::{act, told as number, Pending, Turn, Waited};
+use crate::owned::ticket;
 use crate::permit::Permit;
-use crate::refused::{checked_wait, Refused};
 
 /// What the inner limiter replied to a waiting call that asks for 1 unit.
 #[derive(Debug, Clone, Copy, PartialEq, Eq, Hash)]
@@ -42,7 +43,7 @@ pub trait Host {
     fn capacity(&mut self) -> u32;
 
     /// Takes units back that were granted and are not used.
-    fn refund(&mut self, units: u64);
+    fn refund(&mut self, cost: u32);
 
     /// Sleeps this long.
     fn sleep(&mut self, nap: Duration);
@@ -87,8 +88,8 @@ impl<H: Host + ?Sized> Host for &mut H {
         (**self).capacity()
     }
 
-    fn refund(&mut self, units: u64) {
-        (**self).refund(units);
+    fn refund(&mut self, cost: u32) {
+        (**self).refund(cost);
     }
 
     fn sleep(&mut self, nap: Duration) {
@@ -129,17 +130,15 @@ pub struct Waiting<'a, C: Clock, H: Host> {
 }
 
 impl<C: Clock> CircuitBreaker<C> {
-    /// Admits a call that waits for the inner limiter, at most for this timeout, and sees the wait
-    /// through: the thread sleeps as the host does.
+    /// Admits a call, waits until the inner limiter grants it a unit, and answers its permit: the thread
+    /// sleeps as the host does. A breaker that sheds answers at once.
     ///
     /// # Errors
     ///
-    /// - [`Refused::CircuitOpen`] where the breaker sheds, at once or when the wait is over: then the
-    ///   unit has been refunded to the host.
-    /// - [`Refused::DeadlineExceeded`] at the deadline, or at once where the reply shows that it will be
-    ///   missed. A granted unit has been refunded.
-    /// - [`Refused::CostExceedsCapacity`] for [`Reply::Never`].
-    /// - [`Refused::Nanoseconds`] for a time over 2^62 nanoseconds.
+    /// - [`ThrottleError::CircuitOpen`] where the breaker sheds, at once or when the wait is over: then
+    ///   the unit has been refunded to the host.
+    /// - [`ThrottleError::CostExceedsCapacity`] for [`Reply::Never`].
+    /// - [`ThrottleError::Time`] for a time over 2^62 nanoseconds.
     ///
     /// After each the admission has been given back; a move from open to half-open stays.
     ///
@@ -147,7 +146,7 @@ impl<C: Clock> CircuitBreaker<C> {
     ///
     /// ```
     /// use std::time::{Duration, Instant};
-    /// use pudvirez::{CircuitBreaker, Host, Refused, Reply, SystemClock};
+    /// use pudvirez::{CircuitBreaker, Host, Reply, SystemClock, ThrottleError};
     ///
     /// /// A limiter that grants one unit every 2 ms, and runs on this thread.
     /// struct Spaced { start: Instant, next: Duration }
@@ -161,41 +160,46 @@ impl<C: Clock> CircuitBreaker<C> {
     ///         Reply::Granted { after }
     ///     }
     ///     fn capacity(&mut self) -> u32 { 1 }
-    ///     fn refund(&mut self, _units: u64) { self.next -= Duration::from_millis(2); }
+    ///     fn refund(&mut self, _cost: u32) { self.next -= Duration::from_millis(2); }
     ///     fn sleep(&mut self, nap: Duration) { std::thread::sleep(nap); }
     /// }
     ///
     /// let breaker = CircuitBreaker::builder().build(SystemClock::new())?;
     /// let mut limiter = Spaced { start: Instant::now(), next: Duration::from_millis(5) };
-    /// let missed = breaker.acquire_waiting(&mut limiter, Some(Duration::ZERO)).unwrap_err();
-    /// assert_eq!(missed, Refused::DeadlineExceeded);
-    /// breaker.acquire_waiting(&mut limiter, None)?.success();
+    /// let missed = breaker.acquire_timeout(&mut limiter, Duration::ZERO).unwrap_err();
+    /// assert_eq!(missed, ThrottleError::DeadlineExceeded);
+    /// breaker.acquire(&mut limiter)?.success();
     /// assert!(limiter.start.elapsed() >= Duration::from_millis(5));
-    /// # Ok::<(), Refused>(())
+    /// # Ok::<(), ThrottleError>(())
     /// ```
-    pub fn acquire_waiting<H: Host>(
+    pub fn acquire<H: Host>(&self, host: H) -> Result<Permit<'_, C>, ThrottleError> {
+        self.admit_waiting(host, None)?.all_turns()
+    }
+
+    /// Like [`acquire`](Self::acquire), but waits at most for this timeout.
+    ///
+    /// # Errors
+    ///
+    /// As [`acquire`](Self::acquire), and [`ThrottleError::DeadlineExceeded`] at the deadline, or at once
+    /// where the reply shows that it will be missed. A granted unit has been refunded.
+    pub fn acquire_timeout<H: Host>(
         &self,
         host: H,
-        timeout: Option<Duration>,
-    ) -> Result<Permit<'_, C>, Refused> {
-        let mut waiting = self.start_waiting(host, timeout)?;
-        loop {
-            if let Some(permit) = waiting.turn()? {
-                return Ok(permit);
-            }
-        }
+        timeout: Duration,
+    ) -> Result<Permit<'_, C>, ThrottleError> {
+        self.admit_waiting(host, Some(timeout))?.all_turns()
     }
 
     /// Admits a call that is to wait for the inner limiter, and leaves its turns to the caller.
     ///
     /// # Errors
     ///
-    /// [`Refused::CircuitOpen`] where the breaker sheds, and [`Refused::Nanoseconds`]. All is as it was.
-    pub fn start_waiting<H: Host>(
+    /// [`ThrottleError::CircuitOpen`] where the breaker sheds, and [`ThrottleError::Time`]. All is as it was.
+    pub fn admit_waiting<H: Host>(
         &self,
         mut host: H,
         timeout: Option<Duration>,
-    ) -> Result<Waiting<'_, C, H>, Refused> {
+    ) -> Result<Waiting<'_, C, H>, ThrottleError> {
         let clock = nanos(host.now());
         let now_ms = self.now_ms();
         let pending = self.lock().wait_start(now_ms, clock, timeout.map(nanos))?;
@@ -209,15 +213,24 @@ impl<C: Clock> CircuitBreaker<C> {
 }
 
 impl<'a, C: Clock, H: Host> Waiting<'a, C, H> {
+    /// Sees the wait through.
+    fn all_turns(mut self) -> Result<Permit<'a, C>, ThrottleError> {
+        loop {
+            if let Some(permit) = self.turn()? {
+                return Ok(permit);
+            }
+        }
+    }
+
     /// Takes one turn: asks the limiter or checks the grant that is held, and then sleeps or yields as
     /// the turn says. A permit if the wait is over, and nothing if it goes on.
     ///
     /// # Errors
     ///
-    /// As [`acquire_waiting`](CircuitBreaker::acquire_waiting). After [`Refused::Nanoseconds`] the wait is
-    /// as it was, and a unit that the turn's reply granted has been refunded; after the others the wait has
-    /// ended. A turn of an ended wait is refused with [`Refused::UnknownReply`], and asks for nothing.
-    pub fn turn(&mut self) -> Result<Option<Permit<'a, C>>, Refused> {
+    /// As [`acquire_timeout`](CircuitBreaker::acquire_timeout). After [`ThrottleError::Time`] the wait is as
+    /// it was, and a unit that the turn's reply granted has been refunded; after the others the wait has
+    /// ended. A turn of an ended wait is refused with [`ThrottleError::Turn`], and asks for nothing.
+    pub fn turn(&mut self) -> Result<Option<Permit<'a, C>>, ThrottleError> {
         // of a turn that a panic cut short
         let left = core::mem::take(&mut self.in_hand);
         self.give_back(left.into());
@@ -232,8 +245,8 @@ impl<'a, C: Clock, H: Host> Waiting<'a, C, H> {
         let granted = core::mem::take(&mut self.in_hand);
         let back = match told.number {
             number::OK | number::COST_EXCEEDS_CAPACITY => 0,
-            number::CIRCUIT_OPEN => told.v2,
-            number::DEADLINE_EXCEEDED => told.v1,
+            number::CIRCUIT_OPEN => units(told.v2),
+            number::DEADLINE_EXCEEDED => units(told.v1),
             _ => granted.into(),
         };
         self.give_back(back);
@@ -287,10 +300,7 @@ impl<'a, C: Clock, H: Host> Waiting<'a, C, H> {
             act::YIELD => self.host.yield_now(),
             act::LOOK_AGAIN => {}
             _ => {
-                let ticket = Ticket {
-                    generation: told.v2,
-                    probe: u8::from(told.v3 == 1),
-                };
+                let ticket = ticket(told.v2, told.v3);
                 return Some(Permit::new(self.breaker, ticket));
             }
         }
@@ -302,9 +312,9 @@ impl<'a, C: Clock, H: Host> Waiting<'a, C, H> {
         &mut self.host
     }
 
-    fn give_back(&mut self, units: u64) {
-        if units > 0 {
-            self.host.refund(units);
+    fn give_back(&mut self, cost: u32) {
+        if cost > 0 {
+            self.host.refund(cost);
         }
     }
 }
@@ -318,7 +328,7 @@ impl<C: Clock, H: Host> Drop for Waiting<'_, C, H> {
         // One that looks holds nothing; its turn's unit may be in hand.
         let in_hand = core::mem::take(&mut self.in_hand);
         let held = told(self.breaker.lock().wait_drop(&mut self.pending));
-        self.give_back(held + u64::from(in_hand));
+        self.give_back(held + u32::from(in_hand));
     }
 }
 

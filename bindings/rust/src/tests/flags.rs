@@ -143,23 +143,26 @@ fn pending(state: &State, probe: u8) -> Pending {
     Pending { wait, ticket }
 }
 
+/// Each way to end a wait that aborts its ticket.
+const ENDS: [fn(&mut State, &mut Pending) -> Waited; 3] = [
+    |s, p| unsafe {
+        let turn = Turn {
+            kind: reply::NEVER,
+            ..Turn::default()
+        };
+        pudvirez_wait_turn(&mut s.0, s.1.as_mut_ptr(), PLACES, p, turn, 40, 1)
+    },
+    |s, p| unsafe {
+        let (list, never) = (s.1.as_mut_ptr(), [0, 0, 0, reply::NEVER, 0, 0, 0, 0]);
+        pudvirez_wait_run(&mut s.0, list, PLACES, p, never.as_ptr(), 8, 9, 40, 1)
+    },
+    |s, p| unsafe { pudvirez_wait_drop(&mut s.0, s.1.as_mut_ptr(), PLACES, p) },
+];
+
 #[test]
 fn a_probe_byte_stays_and_every_one_but_0_is_aborted() {
-    let never = [0, 0, 0, reply::NEVER, 0, 0, 0, 0];
-    let turn = Turn {
-        kind: reply::NEVER,
-        ..Turn::default()
-    };
-    let ends: [&dyn Fn(&mut State, &mut Pending) -> Waited; 3] = [
-        &|s, p| unsafe { pudvirez_wait_turn(&mut s.0, s.1.as_mut_ptr(), PLACES, p, turn, 40, 1) },
-        &|s, p| unsafe {
-            let list = s.1.as_mut_ptr();
-            pudvirez_wait_run(&mut s.0, list, PLACES, p, never.as_ptr(), 8, 9, 40, 1)
-        },
-        &|s, p| unsafe { pudvirez_wait_drop(&mut s.0, s.1.as_mut_ptr(), PLACES, p) },
-    ];
     for probe in 0..=u8::MAX {
-        for end in ends {
+        for end in ENDS {
             let mut state = half_open();
             let mut pending = pending(&state, probe);
             let before = pending.ticket;

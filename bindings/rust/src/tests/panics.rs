@@ -4,7 +4,9 @@ use core::time::Duration;
 use std::panic::{catch_unwind, resume_unwind, AssertUnwindSafe};
 
 use super::journal_fields;
-use crate::{CircuitBreaker, Clock, Host, Refused, Reply, Trip};
+use crate::{
+    BreakerState, CircuitBreaker, Clock, Decision, Host, Permit, Reply, ThrottleError, Trip,
+};
 
 const fn ms(n: u64) -> Duration {
     Duration::from_millis(n)
@@ -84,8 +86,8 @@ impl Host for Fused<'_> {
     }
 
     /// It panics after it took the units back.
-    fn refund(&mut self, units: u64) {
-        self.out -= units as i64;
+    fn refund(&mut self, cost: u32) {
+        self.out -= i64::from(cost);
         self.fuse.burn();
     }
 
@@ -211,10 +213,12 @@ fn check<C: Clock>(breaker: &CircuitBreaker<C>, host: &Fused<'_>, admitted: bool
 }
 
 /// Sees a wait through. Its permit is left out.
-fn wait(breaker: &CircuitBreaker<Readings<'_>>, host: &mut Fused<'_>) -> Result<(), Refused> {
-    let timeout = host.case.timeout.map(ms);
-    let permit = breaker.acquire_waiting(host, timeout)?;
-    core::mem::forget(permit);
+fn wait(breaker: &CircuitBreaker<Readings<'_>>, host: &mut Fused<'_>) -> Result<(), ThrottleError> {
+    let permit = match host.case.timeout {
+        Some(timeout) => breaker.acquire_timeout(host, ms(timeout)),
+        None => breaker.acquire(host),
+    };
+    core::mem::forget(permit?);
     Ok(())
 }
 
@@ -252,7 +256,7 @@ fn goes_on_after(case: Case, n: u32) -> bool {
     let fuse = Fuse(Cell::new(Some(n)));
     with_host(case, &fuse, |breaker, host| {
         let timeout = case.timeout.map(ms);
-        let started = fuse.spared(|| breaker.start_waiting(&mut *host, timeout));
+        let started = fuse.spared(|| breaker.admit_waiting(&mut *host, timeout));
         let (mut waiting, mut admitted) = (started.expect("a wait"), false);
         for _ in 0..20 {
             let turn = catch_unwind(AssertUnwindSafe(|| waiting.turn()));
@@ -273,4 +277,41 @@ fn a_wait_goes_on_after_a_panic() {
         let points = (0..).take_while(|n| goes_on_after(case, *n)).count();
         assert!(points > 10, "{case:?}: {points} points");
     }
+}
+
+/// A clock that panics once while a permit is settled: its drop settles it, as a failure.
+#[test]
+fn a_clock_that_panics_leaves_the_permit_to_its_drop() {
+    let settles: [fn(Permit<'_, Readings<'_>>); 2] = [
+        |permit| permit.success(),
+        |permit| permit.failure().expect("told"),
+    ];
+    for settle in settles {
+        let fuse = Fuse(Cell::new(None));
+        with_host(PLAIN, &fuse, |breaker, _| {
+            let permit = breaker.try_acquire(Decision::Acquired).expect("a permit");
+            fuse.0.set(Some(0));
+            let settled = catch_unwind(AssertUnwindSafe(|| settle(permit)));
+            assert!(settled.is_err());
+            assert_eq!(breaker.state(), BreakerState::Open);
+        });
+    }
+}
+
+/// A limiter that panics when it is asked: the admission is given back.
+#[test]
+fn a_limiter_that_panics_gives_the_admission_back() {
+    let fuse = Fuse(Cell::new(None));
+    with_host(PLAIN, &fuse, |breaker, host| {
+        fuse.0.set(Some(1));
+        let asked = catch_unwind(AssertUnwindSafe(|| {
+            let permit = breaker.try_acquire_with(|| match host.ask(Duration::MAX) {
+                Reply::Granted { .. } => Decision::Acquired,
+                reply => unreachable!("{reply:?}"),
+            });
+            permit.map(drop)
+        }));
+        assert!(asked.is_err());
+        assert_eq!(journal_fields(breaker), (1, 2, 0, 0, 1030));
+    });
 }
