@@ -28,8 +28,8 @@
  *     - where pudvirez_try_admit is told other than OK, pudvirez_acquire_cost other than OK with ACQUIRED, or pudvirez_reserve other than
  *       OK with WAIT, although the reply was a grant: the breaker sheds, or the call was refused;
  *     - what CIRCUIT_OPEN (v2) and DEADLINE_EXCEEDED (v1) of a turn or a run say, and what a drop says (v1);
- *     - the unit of a turn that looked and was refused (TURN, TIME; STORAGE, UNSOUND) or not read, although its reply was a grant: the wait
- *       does not hold it;
+ *     - the unit that a turn's reply granted, where the turn was refused (TURN, TIME; STORAGE, UNSOUND) or not read: the wait does not
+ *       hold it;
  *     - what pudvirez_permit_cancel and pudvirez_refund say (v1).
  * To ask the limiter only where the breaker admits, call pudvirez_admit_as, then the limiter, and pudvirez_abort_as if it refused.
  *
