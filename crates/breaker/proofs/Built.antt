@@ -1,12 +1,12 @@
 -- A breaker that the builder makes is sound. Assumes nothing.
-use Prim.Native.Nat.{ℕ, _+_, _*_, _≤_, min, max}
+use Prim.Native.Nat.{ℕ, _≤_, min, max}
 use native.Mathlib.Omega.{arith}
 use mathlib.Core.Path.{_≡_, refl}
-use mathlib.Core.Bool.{Bool, true, false, not, _&&_, _||_, true≢false}
-use lib.Dec.{T, ltb}
-use lib.Ieee.{Float, nan, inf, fin, binary64, up, down, below, level, lt, le, isNan, fits, toBits}
+use mathlib.Core.Bool.{true, false, not, _&&_}
+use lib.Dec.{T}
+use lib.Ieee.{Float, binary64, lt, le, isNan, fits, toBits}
 use lib.Ieee.Bits.{ofBits-toBits, nanBits-is}
-use borrow.Author.Tests.{le-leb, eq-eqb, ltb-false}
+use borrow.Author.Tests.{le-leb, ltb-false}
 use Rattle.trip.specs.declared.Trip.{Trip}
 use Rattle.trip.specs.declared.Trip.the-variants.{Consecutive, Ratio, Windowed}
 use Rattle.trip.specs.declared.Config.{Config}
@@ -15,39 +15,11 @@ use Rattle.trip.specs.declared.Built.the-variants.{Made}
 use Rattle.trip.specs.declared.CircuitBreakerBuilder.{CircuitBreakerBuilder}
 use Rattle.trip.specs.Settings.{isTime, millis, zeroRatio, oneRatio, clampedRatio, normalisedTrip, periodIsTime, overLimit, configFor, builtOf}
 use Rattle.trip.proofs.Settings.{clamped-number}
+use Rattle.trip.proofs.Ratios.{at-least}
 use Rattle.breaker.specs.Record.{soundRatio, soundPolicy, soundConfig}
 use Rattle.breaker.specs.Calls.{fresh}
 use Rattle.error.proofs.Choice.{if-cases}
 use Rattle.breaker.proofs.Keeps.{SoundAt, sound-fresh}
-
--- ---- floats: what is not below a number is at least it
-
-either : (p q : Bool) → (p ≡ false → q ≡ true) → (p || q) ≡ true
-either true q h = refl
-either false q h = h refl
-
--- signed fractions over one denominator
-below-total : (s : Bool) (a : ℕ) (t : Bool) (b : ℕ) → below s a t b ≡ false → (below t b s a || level t b s a) ≡ true
-below-total false a false b e = either (ltb b a) _ (λ f. simp (eq-eqb b a (omega (arith, ltb-false a b e, ltb-false b a f))))
-below-total false a true b e = either (ltb 0 (b + a)) _ (λ f. simp (eq-eqb b a (omega (arith, ltb-false 0 (b + a) f)), eq-eqb b 0 (omega (arith, ltb-false 0 (b + a) f))))
-below-total true a false b e = simp (eq-eqb b a (omega (arith, ltb-false 0 (a + b) e)), eq-eqb b 0 (omega (arith, ltb-false 0 (a + b) e)))
-below-total true a true b e = either (ltb a b) _ (λ f. simp (eq-eqb b a (omega (arith, ltb-false b a e, ltb-false a b f))))
-
--- and all floats but NaN
-not-below : (x y : Float) → isNan x ≡ false → isNan y ≡ false → lt x y ≡ false → le y x ≡ true
-unfolding isNan le
-not-below nan y n m e = absurd (true≢false n)
-not-below (inf s) nan n m e = absurd (true≢false m)
-not-below (inf true) (inf true) n m e = refl
-not-below (inf true) (inf false) n m e = absurd (true≢false e)
-not-below (inf false) (inf true) n m e = refl
-not-below (inf false) (inf false) n m e = refl
-not-below (inf true) (fin t b d) n m e = absurd (true≢false e)
-not-below (inf false) (fin t b d) n m e = refl
-not-below (fin s a c) nan n m e = absurd (true≢false m)
-not-below (fin s a c) (inf true) n m e = refl
-not-below (fin s a c) (inf false) n m e = absurd (true≢false e)
-not-below (fin s a c) (fin t b d) n m e = below-total s (a * up c * down d) t (b * up d * down c) e
 
 -- ---- a normalised ratio is from 0.0 to 1.0, and stays so in its bits
 
@@ -61,7 +33,7 @@ clamped-within : (r : Float) → In (clampedRatio r)
 unfolding clampedRatio isNan le
 clamped-within r =
     if-cases In (isNan r) (λ n. refl) (λ n. if-cases In (lt r zeroRatio) (λ a. refl) (λ a. if-cases In (lt oneRatio r) (λ b. refl)
-    (λ b. rw (not-below r zeroRatio n refl a, not-below oneRatio r refl n b))))
+    (λ b. rw (at-least r zeroRatio n refl, at-least oneRatio r refl n, a, b))))
 
 clamped-fits : (r : Float) → Fits r → Fits (clampedRatio r)
 unfolding clampedRatio fits

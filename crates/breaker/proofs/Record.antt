@@ -3,26 +3,28 @@
 --     →sound         and back, for a state
 --     same-values    a record is the numbers that document 01 lists
 --     stored-state   a sound record is its state, stored; state-stored: a stored state is the state of what was stored
-use mathlib.Core.Path.{_≡_, refl, sym, ap}
-use mathlib.Core.Bool.{Bool, true, false, _&&_, _||_}
+use mathlib.Core.Path.{_≡_, refl, sym, ap, _∙_}
+use mathlib.Core.Bool.{Bool, true, false, not, _&&_, _||_}
 use mathlib.Core.Logic.{_⊎_, inl, inr}
 use mathlib.Core.List.{List, map}
-use Prim.Native.Nat.{ℕ, _≤_, _<_}
+use Prim.Native.Nat.{ℕ, _%_, _^_, _≤_, _<_}
 use native.Mathlib.Omega.{arith}
 use lib.Dec.{leb, ltb, eqb}
 use lib.ListN.{length, getD}
 use lib.Seq.{length-take-le}
-use borrow.Author.Tests.{leb-true, ltb-true, eqb-true, le-leb, lt-ltb, eq-eqb}
+use borrow.Author.Tests.{leb-true, leb-false, ltb-true, ltb-false, eqb-true, le-leb, lt-leb, lt-ltb, le-ltb, eq-eqb}
 use Rattle.history.specs.Items.{view, padded, soundList}
 use Rattle.error.proofs.Choice.{and-split}
 use Rattle.history.proofs.Sound as List·
-use lib.Ieee.{binary64, ofBits}
+use lib.Ieee.{binary64, nanBits, ofBits, isNan, le}
+use lib.Ieee.Bits.{nanBits-is, nanBits-above}
+use Rattle.trip.proofs.Ratios.{signBit, oneBits, at-least, bits-below, bits-above}
 use Rattle.trip.specs.declared.Config.{Config}
 use Rattle.trip.specs.Settings.{zeroRatio, oneRatio}
 use Rattle.breaker.specs.declared.Counts.{Counts}
 use Rattle.breaker.specs.declared.Shared.{Shared}
 use Rattle.breaker.specs.declared.Breaker.{Breaker}
-use Rattle.breaker.specs.Record.{Field, recordFields, State, HalfOpen, state, stored, soundPolicy, soundConfig, isIdle, soundShared, itemsOf, sound}
+use Rattle.breaker.specs.Record.{Field, recordFields, State, HalfOpen, state, stored, soundRatio, soundPolicy, soundConfig, isIdle, soundShared, itemsOf, sound}
 
 -- ---- the numbers of a record
 
@@ -159,11 +161,27 @@ state-stored c st =
     ap (λ (xs : List ℕ). record { state = st .state; generation = st .generation; run = st .run; counts = st .counts; openUntil = st .openUntil; list = xs })
     (List·.view-padded (st .list))
 
--- ---- the code's 0.0 and 1.0
-pub zero-is : ofBits binary64 0 ≡ zeroRatio
-unfolding ofBits
-zero-is = refl
+-- ---- a ratio's bits
+pub sound-negative-zero : (b : ℕ) → b ≡ signBit → true ≡ soundRatio b
+unfolding nanBits ofBits le
+sound-negative-zero b e = rw e
 
-pub one-is : ofBits binary64 0x3ff0_0000_0000_0000 ≡ oneRatio
-unfolding ofBits
-one-is = refl
+-- of any other
+module _ (b : ℕ) (W : b < 2 ^ 64) (Z : b ≡ signBit → ⊥) where
+  within : (p : Bool) → leb b oneBits ≡ p → (q : Bool) → ltb signBit b ≡ q
+      → p ≡ (not q && not (ltb b signBit && ltb oneBits b))
+  within true e true f = let z : _≡_ {A = ℕ} 0 1 = omega (arith, leb-true b oneBits e, ltb-true signBit b f) in absurd (omega arith)
+  within true e false f = let l = leb-true b oneBits e in simp (lt-ltb b signBit (omega arith), le-ltb oneBits b l)
+  within false e true f = refl
+  within false e false f = let l = ltb-false signBit b f in simp (lt-ltb b signBit (omega arith), lt-ltb oneBits b (leb-false b oneBits e))
+
+  pub sound-bits : leb b oneBits ≡ soundRatio b
+  unfolding isNan
+  sound-bits = go (nanBits binary64 b) refl
+    where
+      go : (n : Bool) → nanBits binary64 b ≡ n → leb b oneBits ≡ (not n && (le zeroRatio (ofBits binary64 b) && le (ofBits binary64 b) oneRatio))
+      go true e = lt-leb b oneBits (omega (arith, ltb-true 0x7ff0_0000_0000_0000 (b % signBit) (sym (nanBits-above binary64 b) ∙ e)))
+      go false e =
+          let n : isNan (ofBits binary64 b) ≡ false = sym (nanBits-is binary64 b) ∙ e in
+          rw (at-least (ofBits binary64 b) zeroRatio n refl, at-least oneRatio (ofBits binary64 b) refl n, bits-below b e W, bits-above b e)
+          (within (leb b oneBits) refl (ltb signBit b) refl)

@@ -4,7 +4,7 @@ use mathlib.Core.Bool.{Bool, true, false, not, _&&_}
 use mathlib.Core.List.{List, [], _∷_, _++_, map}
 use lib.Dec.{eqb}
 use lib.ListN.{length, getD}
-use Rattle.error.specs.Choice.{if_then_else_}
+use Rattle.error.specs.Choice.{if_then_else_, flagOf}
 use Rattle.error.specs.Told.{Told, refused}
 use Rattle.error.specs.declared.Refusal.the-variants.{Storage}
 use Rattle.breaker.specs.declared.Ticket.{Ticket}
@@ -20,18 +20,18 @@ callBy t true false = failure t
 callBy t false true = traitAbort t
 callBy t false false = abort t
 
--- the slices of a sequence: its i-th call has the i-th place of each
+-- the slices of a sequence: its i-th call has the i-th place of each; a probe, a settle and a mark are numbers, read by `flagOf`
 pub record Slices : Type 0 where
   pub generations : List ℕ
-  pub probes : List Bool
-  pub settles : List Bool
-  pub marks : List Bool
+  pub probes : List ℕ
+  pub settles : List ℕ
+  pub marks : List ℕ
 
-abbrev pub slices : List ℕ → List Bool → List Bool → List Bool → Slices
+abbrev pub slices : List ℕ → List ℕ → List ℕ → List ℕ → Slices
 slices generations probes settles marks = record { generations = generations; probes = probes; settles = settles; marks = marks }
 
 abbrev pub callAt : Slices → ℕ → Call
-callAt x i = callBy (record { generation = getD (x .generations) i 0; probe = getD (x .probes) i false }) (getD (x .settles) i false) (getD (x .marks) i false)
+callAt x i = callBy (record { generation = getD (x .generations) i 0; probe = flagOf (getD (x .probes) i 0) }) (flagOf (getD (x .settles) i 0)) (flagOf (getD (x .marks) i 0))
 
 -- the first n calls
 unfoldable pub callsTo : Slices → ℕ → List Call

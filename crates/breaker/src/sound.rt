@@ -7,18 +7,17 @@ use crate::OPEN;
 use crate::Shared;
 use history::Items;
 use trip::Config;
+use trip::ONE_BITS;
+use trip::SIGN_BIT;
 
+// By the bits alone: -0.0, or a number from 0.0 to 1.0, whose bits are at most those of 1.0.
 pub(crate) fn sound_ratio(bits: u64) -> bool
     ensures { λ r. ⌜ r ≡ soundRatio bits ⌝ }
 {
-    if bits % 0x8000_0000_0000_0000 > 0x7ff0_0000_0000_0000 {
-        return false;
+    if bits == SIGN_BIT {
+        return true;
     }
-    let ratio = f64::from_bits(bits);
-    if 0.0 <= ratio {
-        return ratio <= 1.0;
-    }
-    false
+    bits <= ONE_BITS
 }
 
 pub(crate) fn sound_policy(c: Config) -> bool

@@ -1,5 +1,2 @@
--- The types that cross, what a step leaves, and that packing loses nothing.
+-- The types that cross, as `thin` takes them.
 pub mod Types
-pub mod Cross
-pub mod Packed
-pub mod PackedWait

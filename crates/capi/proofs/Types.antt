@@ -10,16 +10,16 @@ use Rattle.wait.proofs.Observed as Observed
 use Rattle.wait.proofs.Observed.Laws as Observed·laws
 use Rattle.waiting.proofs.Pending as Pending
 use Rattle.waiting.proofs.Pending.Laws as Pending·laws
-use Rattle.capi.proofs.Told as Told
-use Rattle.capi.proofs.Told.Laws as Told·laws
-use Rattle.capi.proofs.Setting as Setting
-use Rattle.capi.proofs.Setting.Laws as Setting·laws
-use Rattle.capi.proofs.Step as Step
-use Rattle.capi.proofs.Step.Laws as Step·laws
-use Rattle.capi.proofs.Waited as Waited
-use Rattle.capi.proofs.Waited.Laws as Waited·laws
-use Rattle.capi.proofs.WaitStep as WaitStep
-use Rattle.capi.proofs.WaitStep.Laws as WaitStep·laws
+use Rattle.crossing.proofs.Told as Told
+use Rattle.crossing.proofs.Told.Laws as Told·laws
+use Rattle.crossing.proofs.Setting as Setting
+use Rattle.crossing.proofs.Setting.Laws as Setting·laws
+use Rattle.crossing.proofs.Step as Step
+use Rattle.crossing.proofs.Step.Laws as Step·laws
+use Rattle.crossing.proofs.Waited as Waited
+use Rattle.crossing.proofs.Waited.Laws as Waited·laws
+use Rattle.crossing.proofs.WaitStep as WaitStep
+use Rattle.crossing.proofs.WaitStep.Laws as WaitStep·laws
 
 abbrev pub breaker : One
 breaker = ofStruct Breaker.the-type Breaker·laws.the-laws Breaker·laws.the-plain

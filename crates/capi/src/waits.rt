@@ -1,256 +1,83 @@
-// The steps by value under the exported functions of a wait, `wait_f_step` under `pudvirez_wait_f`, and their answers as plain numbers.
+// The calls of a wait before a breaker, for C. One that is refused leaves the breaker as it was.
 ghost use mathlib.Core.Path.{_≡_};
-ghost use Rattle.error.specs.Told.{tell, refused};
-ghost use Rattle.wait.specs.Answers.{actValues, droppedTold};
-ghost use Rattle.waiting.specs.Answers.{begunTold, completedTold, awaitedTold, courseTold};
-ghost use Rattle.waiting.specs.Calls.{starting, turning, running, leaving};
-ghost use Rattle.capi.specs.Waits.{packedWait, crossingWait, crossedWait, crossedRun};
-use crate::WaitStep;
-use crate::Waited;
-use crate::tell::flag;
+ghost use Rattle.waiting.specs.Calls as Waits;
+ghost use Rattle.crossing.specs.Waits.{crossingWait, crossedWait, crossedRun};
 use breaker::Breaker;
-use error::Refusal;
-use wait::Act;
-use wait::Dropped;
+use crossing::Waited;
 use wait::Observed;
-use waiting::Awaited;
-use waiting::Begun;
-use waiting::Completed;
-use waiting::Course;
 use waiting::Pending;
 
-// ---- answers
-
-fn tell_refused(refusal: Refusal, taken: u64) -> Waited
-    ensures { λ r. ⌜ r ≡ packedWait (refused refusal) taken ⌝ }
-{
-    Waited {
-        number: error::number(refusal),
-        v1: 0,
-        v2: 0,
-        v3: 0,
-        taken,
-    }
-}
-
-fn tell_begun(answer: Begun) -> Waited
-    ensures { λ r. ⌜ r ≡ packedWait (begunTold answer) 0 ⌝ }
-{
-    match answer {
-        Begun::Waits => Waited {
-            number: 0,
-            v1: 0,
-            v2: 0,
-            v3: 0,
-            taken: 0,
-        },
-        Begun::Shed(d) => Waited {
-            number: 6,
-            v1: d.ms,
-            v2: 0,
-            v3: 0,
-            taken: 0,
-        },
-        Begun::Refused(r) => tell_refused(r, 0),
-    }
-}
-
-// The end of a wait, after so many turns of a run.
-fn tell_completed(end: Completed, taken: u64) -> Waited
-    ensures { λ r. ⌜ r ≡ packedWait (completedTold end) taken ⌝ }
-{
-    match end {
-        Completed::Admitted(t) => Waited {
-            number: 0,
-            v1: 0,
-            v2: t.generation,
-            v3: flag(t.probe),
-            taken,
-        },
-        Completed::Shed(d, refund) => Waited {
-            number: 6,
-            v1: d.ms,
-            v2: refund,
-            v3: 0,
-            taken,
-        },
-        Completed::Impossible(cost, capacity) => Waited {
-            number: 8,
-            v1: cost,
-            v2: capacity,
-            v3: 0,
-            taken,
-        },
-        Completed::Deadline(back) => Waited {
-            number: 9,
-            v1: back,
-            v2: 0,
-            v3: 0,
-            taken,
-        },
-    }
-}
-
-// What the host is to do: 1 to 4, and for how long, and past which epoch.
-fn tell_act(act: Act) -> Waited
-    ensures { λ r. ⌜ r ≡ packedWait (tell 0 (actValues act)) 0 ⌝ }
-{
-    match act {
-        Act::Sleep(nanos) => Waited {
-            number: 0,
-            v1: 1,
-            v2: nanos,
-            v3: 0,
-            taken: 0,
-        },
-        Act::SleepUnlessResumed(nanos, epoch) => Waited {
-            number: 0,
-            v1: 2,
-            v2: nanos,
-            v3: epoch,
-            taken: 0,
-        },
-        Act::Yield => Waited {
-            number: 0,
-            v1: 3,
-            v2: 0,
-            v3: 0,
-            taken: 0,
-        },
-        Act::LookAgain => Waited {
-            number: 0,
-            v1: 4,
-            v2: 0,
-            v3: 0,
-            taken: 0,
-        },
-    }
-}
-
-fn tell_awaited(answer: Awaited) -> Waited
-    ensures { λ r. ⌜ r ≡ packedWait (awaitedTold answer) 0 ⌝ }
-{
-    match answer {
-        Awaited::Next(act) => tell_act(act),
-        Awaited::Ends(end) => tell_completed(end, 0),
-        Awaited::Refused(r) => tell_refused(r, 0),
-    }
-}
-
-fn tell_course(course: Course, taken: u64) -> Waited
-    ensures { λ r. ⌜ r ≡ packedWait (courseTold course) taken ⌝ }
-{
-    match course {
-        Course::Ends(end) => tell_completed(end, taken),
-        Course::Unfinished => Waited {
-            number: 10,
-            v1: 0,
-            v2: 0,
-            v3: 0,
-            taken,
-        },
-        Course::Refused(r) => tell_refused(r, taken),
-    }
-}
-
-fn tell_dropped(answer: Dropped) -> Waited
-    ensures { λ r. ⌜ r ≡ packedWait (droppedTold answer) 0 ⌝ }
-{
-    match answer {
-        Dropped::GiveBack(n) => Waited {
-            number: 0,
-            v1: n,
-            v2: 0,
-            v3: 0,
-            taken: 0,
-        },
-        Dropped::Refused(r) => tell_refused(r, 0),
-    }
-}
-
-// ---- steps
-
-// Ruled out: a shed told 0; a wait begun and the record before the admission returned.
-pub(crate) fn wait_start_step(
-    breaker: Breaker,
+// Admits a call, and begins its wait for the inner limiter: 0, or 6 with the delay. A time over 2^62 is told 1, before the admission.
+// Ruled out: a probe taken and not stored; a shed that changes the pending wait.
+#[no_mangle]
+pub extern "C" fn pudvirez_wait_start(
+    breaker: &mut Breaker,
     list: &mut [u64],
-    pending: Pending,
+    pending: &mut Pending,
     now_ms: u64,
     clock: u64,
     limited: bool,
     timeout: u64,
-) -> WaitStep
-    ensures { λ r. ⌜ crossingWait (r .answer) (r .breaker) (now (list .exit)) (r .pending) ≡ crossedWait (starting «now_ms» clock limited timeout breaker (now (list .entry)) pending) ⌝ }
+) -> Waited
+    ensures { λ r. ⌜ crossingWait r (now (breaker .exit)) (now (list .exit)) (now (pending .exit)) ≡ crossedWait (Waits.starting «now_ms» clock limited timeout (now (breaker .entry)) (now (list .entry)) (now (pending .entry))) ⌝ }
 {
-    let s = waiting::start(breaker, list, pending, now_ms, clock, limited, timeout);
-    let answer = s.answer;
-    let next = s.breaker;
-    let left = s.pending;
-    WaitStep {
-        answer: tell_begun(answer),
-        breaker: next,
-        pending: left,
-    }
+    let s = crossing::wait_start(*breaker, list, *pending, now_ms, clock, limited, timeout);
+    *breaker = s.breaker;
+    *pending = s.pending;
+    s.answer
 }
 
-// Ruled out: an epoch told as the time to sleep; an admission told without its ticket.
-pub(crate) fn wait_turn_step(
-    breaker: Breaker,
+// One turn: 0 with what the host is to do, or with the ticket of an admission; 6, 8 or 9 where the wait ends without one.
+// Ruled out: a turn told and its wait not stored; a deadline told and its ticket kept.
+#[no_mangle]
+pub extern "C" fn pudvirez_wait_turn(
+    breaker: &mut Breaker,
     list: &mut [u64],
-    pending: Pending,
+    pending: &mut Pending,
     turn: Observed,
     now_ms: u64,
     capacity: u32,
-) -> WaitStep
-    ensures { λ r. ⌜ crossingWait (r .answer) (r .breaker) (now (list .exit)) (r .pending) ≡ crossedWait (turning turn «now_ms» capacity breaker (now (list .entry)) pending) ⌝ }
+) -> Waited
+    ensures { λ r. ⌜ crossingWait r (now (breaker .exit)) (now (list .exit)) (now (pending .exit)) ≡ crossedWait (Waits.turning turn «now_ms» capacity (now (breaker .entry)) (now (list .entry)) (now (pending .entry))) ⌝ }
 {
-    let s = waiting::turn(breaker, list, pending, turn, now_ms, capacity);
-    let answer = s.answer;
-    let next = s.breaker;
-    let left = s.pending;
-    WaitStep {
-        answer: tell_awaited(answer),
-        breaker: next,
-        pending: left,
-    }
+    let s = crossing::wait_turn(*breaker, list, *pending, turn, now_ms, capacity);
+    *breaker = s.breaker;
+    *pending = s.pending;
+    s.answer
 }
 
-// Ruled out: turns used up told as a deadline; a refused run told to have taken none.
-pub(crate) fn wait_run_step(
-    breaker: Breaker,
+// Takes turns until the wait ends, one is refused, or the limit or the turns are used up, which is told 10; and how many it took.
+// Ruled out: a run that takes its first turn only; a count that isn't that of the rules.
+#[no_mangle]
+pub extern "C" fn pudvirez_wait_run(
+    breaker: &mut Breaker,
     list: &mut [u64],
-    pending: Pending,
+    pending: &mut Pending,
     turns: &[u64],
     limit: u64,
     now_ms: u64,
     capacity: u32,
-) -> WaitStep
-    ensures { λ r. ⌜ crossingWait (r .answer) (r .breaker) (now (list .exit)) (r .pending) ≡ crossedRun (running (now (turns .entry)) limit «now_ms» capacity breaker (now (list .entry)) pending) ⌝ }
+) -> Waited
+    ensures { λ r. ⌜ crossingWait r (now (breaker .exit)) (now (list .exit)) (now (pending .exit)) ≡ crossedRun (Waits.running (now (turns .entry)) limit «now_ms» capacity (now (breaker .entry)) (now (list .entry)) (now (pending .entry))) ⌝ }
 {
-    let s = waiting::run(breaker, list, pending, turns, limit, now_ms, capacity);
-    let answer = s.answer;
-    let next = s.breaker;
-    let left = s.pending;
-    let course = answer.course;
-    let taken = answer.taken;
-    WaitStep {
-        answer: tell_course(course, taken),
-        breaker: next,
-        pending: left,
-    }
+    let s = crossing::wait_run(*breaker, list, *pending, turns, limit, now_ms, capacity);
+    *breaker = s.breaker;
+    *pending = s.pending;
+    s.answer
 }
 
-// Ruled out: a held grant told as nothing to give back; the wait before the drop returned.
-pub(crate) fn wait_drop_step(breaker: Breaker, list: &mut [u64], pending: Pending) -> WaitStep
-    ensures { λ r. ⌜ crossingWait (r .answer) (r .breaker) (now (list .exit)) (r .pending) ≡ crossedWait (leaving breaker (now (list .entry)) pending) ⌝ }
+// Ends a wait before its time: the ticket is given back; 0 with 1 to give back to the inner limiter where a grant is held, else with 0.
+// Ruled out: a drop whose ticket stays out; a wait that can be dropped twice.
+#[no_mangle]
+pub extern "C" fn pudvirez_wait_drop(
+    breaker: &mut Breaker,
+    list: &mut [u64],
+    pending: &mut Pending,
+) -> Waited
+    ensures { λ r. ⌜ crossingWait r (now (breaker .exit)) (now (list .exit)) (now (pending .exit)) ≡ crossedWait (Waits.leaving (now (breaker .entry)) (now (list .entry)) (now (pending .entry))) ⌝ }
 {
-    let s = waiting::drop_pending(breaker, list, pending);
-    let answer = s.answer;
-    let next = s.breaker;
-    let left = s.pending;
-    WaitStep {
-        answer: tell_dropped(answer),
-        breaker: next,
-        pending: left,
-    }
+    let s = crossing::wait_drop(*breaker, list, *pending);
+    *breaker = s.breaker;
+    *pending = s.pending;
+    s.answer
 }

@@ -16,31 +16,34 @@ use Rattle.breaker.specs.declared.Ticket.{Ticket}
 use Rattle.breaker.specs.declared.Breaker.{Breaker}
 use Rattle.breaker.specs.declared.Tested.the-variants.{Sound, Refused}
 use Rattle.breaker.specs.Record.{State, Closed, settings, state, stored, sound}
-use Rattle.breaker.specs.Rules.{done, inClosed, finish, settling, aborting}
+use Rattle.breaker.specs.Rules.{done, settled, aborted, finish}
 use Rattle.breaker.specs.Calls.{After, after, kept, guarded}
-use Rattle.breaker.specs.Orders.{Ran, run, inTurn}
+use Rattle.breaker.specs.Orders.{Sequence, sequence, inTurn}
 use Rattle.breaker.specs.Batch.{Slices, callBy, callAt, callsTo, calls, batch, numbers, alike, finishedAll}
 use Rattle.steps.specs.Steps.{Holds}
 use Rattle.breaker.proofs.Guard.{guarded-refused, guarded-done}
-use Rattle.breaker.proofs.Keeps.{sound-run, sound-state}
-use Rattle.breaker.proofs.Orders.{run-snoc}
+use Rattle.breaker.proofs.Keeps.{sound-sequence, sound-state}
+use Rattle.breaker.proofs.Orders.{sequence-snoc}
 use Rattle.steps.proofs.Holding.{holds}
-use Rattle.steps.proofs.Settling.{settle-closed}
+use Rattle.steps.proofs.Aborting.{given-back}
 
 -- ---- one call
-module _ (c : Config) (st : State) (reading : ℕ) (t : Ticket) (mark : Bool) (s : List ℕ) (b : Breaker) (h : Holds c st b s) where
-  pub call-settles : (settles : Bool) → settles ≡ true → (x : After) → x ≡ kept c (finish (settings c) reading (settling t mark) st)
+module _ (c : Config) (st : State) (reading : ℕ) (t : Ticket) (mark : Bool) where
+  pub call-settles : (settles : Bool) → settles ≡ true → (x : After) → x ≡ kept c (settled (settings c) reading t mark st)
       → x ≡ kept c (finish (settings c) reading (callBy t settles mark) st)
-  call-settles settles e x q = rw e q
+  call-settles settles e x q = rw e (q ∙ ap (kept c) (go mark))
+    where
+      go : (m : Bool) → settled (settings c) reading t m st ≡ finish (settings c) reading (callBy t true m) st
+      go true = refl
+      go false = refl
 
-  pub call-closed : (settles : Bool) → settles ≡ true → t .generation ≡ b .shared .generation → b .shared .state ≡ Closed → (x : After)
-      → x ≡ kept c (inClosed (settings c) reading (settling t mark) st) → x ≡ kept c (finish (settings c) reading (callBy t settles mark) st)
-  call-closed settles e g k x q = call-settles settles e x (q ∙ settle-closed b s c st reading t mark h g (λ z. omega (arith, k, z)) k)
-
-  pub call-aborts : (settles : Bool) → settles ≡ false → (next : Breaker)
-      → kept c (finish (settings c) reading (aborting t mark) st) ≡ after nothing next (padded (st .list))
+  pub call-aborts : (settles : Bool) → settles ≡ false → (s : List ℕ) (next : Breaker) → next ≡ stored c (aborted t mark st) → s ≡ padded (st .list)
       → after nothing next s ≡ kept c (finish (settings c) reading (callBy t settles mark) st)
-  call-aborts settles e next q = rw e (ap (after nothing next) (h .1) ∙ sym q)
+  call-aborts settles e s next q l = rw e (given-back nothing c t mark st next s q l ∙ ap (kept c) (go mark))
+    where
+      go : (m : Bool) → done (aborted t m st) ≡ finish (settings c) reading (callBy t false m) st
+      go true = refl
+      go false = refl
 
 numbers-more : (told : List Told) (t : Told) → numbers (told ++ (t ∷ [])) ≡ numbers told ++ (t .number ∷ [])
 numbers-more [] t = refl
@@ -48,18 +51,18 @@ numbers-more (a ∷ told) t = ap (λ (y : List ℕ). a .number ∷ y) (numbers-m
 
 -- ---- the calls so far
 module _ (x : Slices) (reading : ℕ) (start : Breaker) (s : List ℕ) where
-  abbrev pub soFar : ℕ → Ran
+  abbrev pub soFar : ℕ → Sequence
   soFar i = inTurn reading start s (callsTo x i)
 
   more : (i : ℕ) → (let o = finish (settings (start .config)) reading (callAt x i) (soFar i .after) in
       soFar (suc i) ≡ record { after = o .after; answers = soFar i .answers ++ (o .told ∷ []) })
   unfolding callsTo
-  more i = run-snoc (settings (start .config)) reading (callsTo x i) (callAt x i) (state start s)
+  more i = sequence-snoc (settings (start .config)) reading (callsTo x i) (callAt x i) (state start s)
 
   count : (i : ℕ) → length (numbers (soFar i .answers)) ≡ i
-  unfolding callsTo run
+  unfolding callsTo sequence
   count zero = refl
-  count (suc i) = ap (λ (r : Ran). length (numbers (r .answers))) (more i) ∙ one (soFar i .answers) (finish (settings (start .config)) reading (callAt x i) (soFar i .after) .told) i (count i)
+  count (suc i) = ap (λ (r : Sequence). length (numbers (r .answers))) (more i) ∙ one (soFar i .answers) (finish (settings (start .config)) reading (callAt x i) (soFar i .after) .told) i (count i)
     where
       one : (told : List Told) (t : Told) (n : ℕ) → length (numbers told) ≡ n → length (numbers (told ++ (t ∷ []))) ≡ suc n
       one told t n e = rw (numbers-more told t, length-append, e, add-one)
@@ -70,18 +73,18 @@ module _ (x : Slices) (reading : ℕ) (start : Breaker) (s : List ℕ) where
     pub told : a ≡ numbers (soFar i .answers) ++ drop i a₀
 
   pub turn-first : sound start s ≡ true → (a₀ : List ℕ) → Turn a₀ start s a₀ 0
-  unfolding callsTo run
+  unfolding callsTo sequence
   turn-first ok a₀ = record { held = holds start s ok; told = refl }
 
   pub turn-sound : {a₀ : List ℕ} {b : Breaker} {l a : List ℕ} {i : ℕ} → sound start s ≡ true → Turn a₀ b l a i → sound b l ≡ true
-  turn-sound {i = i} ok t = rw (t .held .0, t .held .1) (sound-run (start .config) reading (callsTo x i) (state start s) (sound-state start s ok))
+  turn-sound {i = i} ok t = rw (t .held .0, t .held .1) (sound-sequence (start .config) reading (callsTo x i) (state start s) (sound-state start s ok))
 
   pub turn-more : {a₀ : List ℕ} {b : Breaker} {l a : List ℕ} {i : ℕ} → Turn a₀ b l a i → i < length a₀ → (t : Told) (b′ : Breaker) (l′ : List ℕ) (v : ℕ)
       → after t b′ l′ ≡ kept (start .config) (finish (settings (start .config)) reading (callAt x i) (soFar i .after)) → v ≡ t .number → Turn a₀ b′ l′ (set a i v) (i + 1)
   turn-more {a₀} {b} {l} {a} {i} turn h t b′ l′ v e n =
       let o = finish (settings (start .config)) reading (callAt x i) (soFar i .after) in
       let told′ : numbers (soFar (suc i) .answers) ≡ numbers (soFar i .answers) ++ (v ∷ []) =
-      ap (λ (r : Ran). numbers (r .answers)) (more i) ∙ numbers-more (soFar i .answers) (o .told)
+      ap (λ (r : Sequence). numbers (r .answers)) (more i) ∙ numbers-more (soFar i .answers) (o .told)
       ∙ ap (λ (m : ℕ). numbers (soFar i .answers) ++ (m ∷ [])) (sym (ap (λ (y : After). y .told .number) e) ∙ sym n) in
       let put : set a i v ≡ numbers (soFar (suc i) .answers) ++ drop (suc i) a₀ =
       ap (λ (y : List ℕ). set y i v) (turn .told ∙ ap (λ (y : List ℕ). numbers (soFar i .answers) ++ y) (drop-cons a₀ i 0 h))
@@ -89,8 +92,8 @@ module _ (x : Slices) (reading : ℕ) (start : Breaker) (s : List ℕ) where
       ∙ sym (append-snoc (numbers (soFar i .answers)) v (drop (suc i) a₀))
       ∙ ap (λ (y : List ℕ). y ++ drop (suc i) a₀) (sym told′) in
       let at : Holds (start .config) (soFar (suc i) .after) b′ l′ = (
-        ap (λ (y : After). y .breaker) e ∙ ap (λ (r : Ran). stored (start .config) (r .after)) (sym (more i)),
-        ap (λ (y : After). y .places) e ∙ ap (λ (r : Ran). padded (r .after .list)) (sym (more i)),
+        ap (λ (y : After). y .breaker) e ∙ ap (λ (r : Sequence). stored (start .config) (r .after)) (sym (more i)),
+        ap (λ (y : After). y .places) e ∙ ap (λ (r : Sequence). padded (r .after .list)) (sym (more i)),
       ) in
       rw add-one (record { held = at; told = put })
 

@@ -9,6 +9,7 @@ ghost use Rattle.breaker.specs.Calls.{after, kept};
 ghost use Rattle.breaker.specs.Orders.{FinishingOrders, inTurn};
 ghost use Rattle.breaker.specs.Batch.{batch, slices, calls, numbers, finishedAll};
 use breaker::Breaker;
+use breaker::CLOSED;
 use breaker::Finished;
 use breaker::Settled;
 use breaker::Tested;
@@ -28,9 +29,9 @@ fn finish_each(
     list: &mut [u64],
     now_ms: u64,
     generations: &[u64],
-    probes: &[bool],
-    settles: &[bool],
-    marks: &[bool],
+    probes: &[u8],
+    settles: &[u8],
+    marks: &[u8],
     answers: &mut [u64],
 ) -> Breaker
     requires { ⌜ sound start (now list) ≡ true ⌝ }
@@ -42,13 +43,13 @@ fn finish_each(
     while i < generations.len() {
         let t = Ticket {
             generation: generations[i],
-            probe: probes[i],
+            probe: probes[i] != 0,
         };
-        let mark = marks[i];
-        if !settles[i] {
+        let mark = marks[i] != 0;
+        if settles[i] == 0 {
             b = abort_locked(b, t, mark);
             answers[i] = 0;
-        } else if b.shared.state != 0 {
+        } else if b.shared.state != CLOSED {
             b = settle_unclosed(b, list, now_ms, t, mark);
             answers[i] = 0;
         } else if t.generation != b.shared.generation {
@@ -58,12 +59,12 @@ fn finish_each(
                 Recorded::Refused(r) => {
                     answers[i] = error::number(r) as u64;
                 }
-                Recorded::Counted(run, len) => {
-                    b = with_history(b, run, len);
+                Recorded::Counted(change) => {
+                    b = with_history(b, change.run, change.len);
                     answers[i] = 0;
                 }
-                Recorded::Tripped(run, len) => {
-                    b = opened(with_history(b, run, len), now_ms);
+                Recorded::Tripped(change) => {
+                    b = opened(with_history(b, change.run, change.len), now_ms);
                     answers[i] = 0;
                 }
             }
@@ -74,16 +75,17 @@ fn finish_each(
 }
 
 // Runs a sequence of finishing calls at one reading, given as slices of equal length; each call's number goes to `answers`.
-// From a sound HalfOpen breaker the whole of demand 3 holds of it.
+// In `probes`, `settles` and `marks` 0 is false, any other number true.
+// The first clause binds this code; the second says of the same rules that demand 3 holds from a sound HalfOpen breaker.
 // Ruled out: one that acts on the first call only; one that goes on from a stale record.
 pub fn finish_all(
     breaker: Breaker,
     list: &mut [u64],
     now_ms: u64,
     generations: &[u64],
-    probes: &[bool],
-    settles: &[bool],
-    marks: &[bool],
+    probes: &[u8],
+    settles: &[u8],
+    marks: &[u8],
     answers: &mut [u64],
 ) -> Settled
     ensures { λ r. ⌜ batch (after (finishedTold (r .answer)) (r .breaker) (now (list .exit))) (now (answers .exit)) ≡ finishedAll «now_ms» (slices (now (generations .entry)) (now (probes .entry)) (now (settles .entry)) (now (marks .entry))) breaker (now (list .entry)) (now (answers .entry)) ⌝ }

@@ -11,7 +11,9 @@ use breaker::Finished;
 use breaker::Settled;
 use breaker::Tested;
 use breaker::Ticket;
+use breaker::items_of;
 use breaker::test;
+use history::Items;
 use steps::abort_locked;
 use steps::close;
 use steps::manual_locked;
@@ -111,13 +113,16 @@ pub fn board(breaker: Breaker, list: &[u64]) -> Counted
     match test(breaker, list) {
         Tested::Refused(r) => Counted::Refused(r),
         Tested::Sound => {
-            let c = breaker.config;
-            let h = breaker.shared;
-            if c.kind != 2 {
-                return Counted::Count(0);
+            let len = breaker.shared.len;
+            let items = items_of(breaker.config);
+            match items {
+                Items::Nothing => Counted::Count(0),
+                Items::Outcomes(_) => {
+                    let failed = history::count_failures(list, 0, len) as u32;
+                    Counted::Count(trip::board_figure(failed, len))
+                }
+                Items::Times => Counted::Count(0),
             }
-            let failed = history::count_failures(list, h.len) as u32;
-            Counted::Count(trip::board_figure(failed, h.len))
         }
     }
 }

@@ -10,8 +10,8 @@ use borrow.Author.Tests.{le-leb}
 use Rattle.history.specs.Items.{sumOf, evicted}
 use Rattle.trip.specs.Settings.{clampedRatio, builtOf}
 use Rattle.trip.specs.Policy.{ratioReached, tripped}
-use Rattle.breaker.specs.Rules.{admit, inClosed, act, finish, stillAdmits}
-use Rattle.breaker.specs.Orders.{run}
+use Rattle.breaker.specs.Rules.{admit, inClosed, settled, stillAdmits}
+use Rattle.breaker.specs.Orders.{sequence}
 use Rattle.wait.specs.declared.Wait.{Wait}
 use Rattle.wait.specs.declared.Turned.the-variants.{Next, Ends}
 use Rattle.wait.specs.declared.Act.the-variants.{Yield}
@@ -38,23 +38,23 @@ unfolding admit
 p5 s = (refl, refl)
 
 p6 : P6
-unfolding finish act inClosed tripped ratioReached sumOf round le lt eq size span climb units odd trailingZeros ofBits ofFields
+unfolding settled inClosed tripped ratioReached sumOf round le lt eq size span climb units odd trailingZeros ofBits ofFields
 p6 = refl
 
 p7 : P7
-unfolding finish act inClosed tripped sumOf evicted
+unfolding settled inClosed tripped sumOf evicted
 p7 = (refl, refl)
 
 p9 : P9
-unfolding finish act
+unfolding settled
 p9 = refl
 
 p10 : P10
-unfolding stillAdmits finish
+unfolding stillAdmits settled
 p10 s reading = (refl, refl, refl)
 
 p11 : P11
-unfolding run finish act
+unfolding sequence settled
 p11 = (refl, refl, refl, refl)
 
 -- a wait with timeout 0 after k retries of 0

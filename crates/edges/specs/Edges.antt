@@ -13,9 +13,9 @@ use Rattle.trip.specs.Settings.{clampedRatio, normalisedTrip, oneRatio, builtOf
 use Rattle.trip.specs.Policy.{Policy, Consecutive, Windowed}
 use Rattle.breaker.specs.declared.Ticket.{Ticket}
 use Rattle.breaker.specs.Record.{Settings, State, Closed, HalfOpen, Open, settings}
-use Rattle.breaker.specs.Rules.{done, opening, closing, halfOpening, granted, shed, ticketOf, admit, Call, success, failure, finish, reset, stillAdmits}
+use Rattle.breaker.specs.Rules.{done, noCounts, opening, closing, halfOpening, granted, shed, ticketOf, admit, Call, success, failure, finish, reset, admits, stillAdmits}
 use Rattle.breaker.specs.Calls.{fresh}
-use Rattle.breaker.specs.Orders.{run}
+use Rattle.breaker.specs.Orders.{sequence}
 use Rattle.wait.specs.declared.Wait.{Wait}
 use Rattle.wait.specs.declared.Observed.{Observed}
 use Rattle.wait.specs.Turns.{newWait}
@@ -53,10 +53,10 @@ probe g = record { generation = g; probe = true }
 
 -- HalfOpen with both trials out
 abbrev pub trying : ℕ → State
-trying g = record { state = HalfOpen; generation = g; run = 2; inflight = 2; traitProbes = 0; successes = 0; openUntil = 30; list = [] }
+trying g = record { state = HalfOpen; generation = g; run = 2; counts = record { inflight = 2; «trait_probes» = 0; successes = 0 }; openUntil = 30; list = [] }
 
 abbrev pub openTo : ℕ → State
-openTo until = record { state = Open; generation = 7; run = 2; inflight = 0; traitProbes = 0; successes = 0; openUntil = until; list = [] }
+openTo until = record { state = Open; generation = 7; run = 2; counts = noCounts; openUntil = until; list = [] }
 
 -- the states after each call
 abbrev pub states : Settings → ℕ → List Call → State → List ℕ
@@ -99,10 +99,10 @@ P10 =
     (s : Settings) (reading : ℕ) →
     let st = reset fresh .after in
     let t = ticketOf fresh false in
-    (st .generation ≡ 1) × (stillAdmits reading t st ≡ tell 0 []) × (finish s reading (failure t) st ≡ done st)
+    (st .generation ≡ 1) × (stillAdmits reading t st ≡ admits) × (finish s reading (failure t) st ≡ done st)
 
 abbrev pub finalState : ℕ → List Call → ℕ
-finalState required cs = run (set (Consecutive 2) 1000 required) 40 cs (trying 7) .after .state
+finalState required cs = sequence (set (Consecutive 2) 1000 required) 40 cs (trying 7) .after .state
 
 -- "P11 trials 2, required 2: success and failure open in either order; required 1: order decides."
 abbrev pub P11 : Type 0

@@ -1,6 +1,7 @@
--- A choice by a test, and a test as a number.
+-- A choice by a test, a test as a number, and a number as a test.
 use Prim.Native.Nat.{ℕ}
-use mathlib.Core.Bool.{Bool, true, false}
+use mathlib.Core.Bool.{Bool, true, false, not}
+use lib.Dec.{eqb}
 
 infixr 10 if_then_else_
 abbrev pub if_then_else_ : {A : Type 0} → Bool → A → A → A
@@ -11,3 +12,7 @@ if false then a else b = b
 abbrev pub bit : Bool → ℕ
 bit true = 1
 bit false = 0
+
+-- a number as a test: 0 is false, any other number true
+abbrev pub flagOf : ℕ → Bool
+flagOf n = not (eqb n 0)

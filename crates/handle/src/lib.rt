@@ -227,16 +227,17 @@ pub fn refund(breaker: &mut Breaker, list: &mut [u64], cost: u32) -> Notice
 }
 
 // Runs a sequence of finishing calls at one reading, given as slices of equal length; each call's number goes to `answers`.
-// From a sound HalfOpen breaker the whole of demand 3 holds of it.
+// In `probes`, `settles` and `marks` 0 is false, any other number true.
+// The first clause binds this code; the second says of the same rules that demand 3 holds from a sound HalfOpen breaker.
 // Ruled out: one that acts on the first call only; a record left as it was before the last.
 pub fn finish_all(
     breaker: &mut Breaker,
     list: &mut [u64],
     now_ms: u64,
     generations: &[u64],
-    probes: &[bool],
-    settles: &[bool],
-    marks: &[bool],
+    probes: &[u8],
+    settles: &[u8],
+    marks: &[u8],
     answers: &mut [u64],
 ) -> Finished
     ensures { λ r. ⌜ batch (after (finishedTold r) (now (breaker .exit)) (now (list .exit))) (now (answers .exit)) ≡ finishedAll «now_ms» (slices (now (generations .entry)) (now (probes .entry)) (now (settles .entry)) (now (marks .entry))) (now (breaker .entry)) (now (list .entry)) (now (answers .entry)) ⌝ }
@@ -338,9 +339,9 @@ pub fn is_sound(breaker: &Breaker, list: &[u64]) -> bool
 // Whether a waiter with this ticket may still go.
 // Ruled out: one that looks at the state before the generation; a delay in HalfOpen.
 pub fn still_admits(breaker: &Breaker, list: &[u64], now_ms: u64, ticket: Ticket) -> Standing
-    ensures { λ r. ⌜ standingTold r ≡ asked (λ s st. Rules.stillAdmits «now_ms» ticket st) (now (breaker .entry)) (now (list .entry)) ⌝ }
+    ensures { λ r. ⌜ standingTold r ≡ asked (Calls.standing «now_ms» ticket) (now (breaker .entry)) (now (list .entry)) ⌝ }
 {
-    breaker::still_admits(*breaker, list, now_ms, ticket)
+    admission::still_admits(*breaker, list, now_ms, ticket)
 }
 
 // The board figure: failures in a thousand calls of the Ratio list.

@@ -71,7 +71,7 @@ pub laid-nil : (s : List ℕ) (at : ℕ) → s ≡ laid at [] s
 laid-nil s at = rw add-zero (sym (take-append-drop at s))
 
 -- a number of k digits is below 10 ^ k
-length-decimal : (n k : ℕ) → n < 10 ^ suc k → length (printDecimal n) ≤ suc k
+pub length-decimal : (n k : ℕ) → n < 10 ^ suc k → length (printDecimal n) ≤ suc k
 length-decimal n = by-digits (λ n. (k : ℕ) → n < 10 ^ suc k → length (printDecimal n) ≤ suc k) small more n
   where
     small : (d : ℕ) → d < 10 → (k : ℕ) → d < 10 ^ suc k → length (printDecimal d) ≤ suc k

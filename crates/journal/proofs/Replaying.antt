@@ -2,13 +2,13 @@
 use mathlib.Core.Path.{_≡_, refl, sym, ap, _∙_}
 use mathlib.Core.Bool.{Bool, true, false}
 use mathlib.Core.List.{List, [], _∷_, _++_, append-assoc}
-use Prim.Native.Nat.{ℕ, suc, _+_, _≤_, min}
+use Prim.Native.Nat.{ℕ, suc, _+_, _≤_, _<_, min}
 use native.Mathlib.Numerals.{add-one}
 use native.Mathlib.Omega.{arith}
 use lib.Dec.{ltb}
-use lib.ListN.{length, take, drop, length-append}
-use lib.Seq.{drop-drop, take-all, length-take-le}
-use borrow.Author.Tests.{ltb-true, ltb-false, le-ltb}
+use lib.ListN.{length, take, drop, length-append, length-take}
+use lib.Seq.{drop-drop, take-all, take-take, length-take-le}
+use borrow.Author.Tests.{ltb-true, ltb-false, lt-ltb, le-ltb}
 use Rattle.history.specs.Items.{padded}
 use Rattle.error.specs.Told.{numberOf}
 use Rattle.error.specs.declared.Refusal.{Refusal}
@@ -24,9 +24,10 @@ use Rattle.lines.specs.Print.{printDecimal, decimalIn, printLine, printCall, re
 use Rattle.lines.specs.Reads.{NoCall, NoHeader}
 use Rattle.lines.proofs.CallLines.{same-call}
 use Rattle.lines.proofs.HeaderLines.{same-header}
-use Rattle.journal.specs.Replay.{called, answerLine, malformedLine, builderOf, Replays, finished, call, malformed, Answers, headless, refused, headed, Journal}
+use Rattle.journal.specs.Replay.{called, answerLine, malformedLine, builderOf, Replays, finished, call, malformed, Answers, headless, refused, headed, Journal, Kept, Replaying, ReadInto, ReplayingRead}
+use Rattle.journal.specs.declared.Replayed.the-variants.{Written}
 use Rattle.journal.specs.Laid.{laid}
-use Rattle.journal.specs.Steps.{Ends, Kept}
+use Rattle.journal.specs.Steps.{Ends}
 use Rattle.journal.proofs.Laid.{take-laid, drop-laid}
 use Rattle.journal.proofs.Building.{IsMade}
 
@@ -85,14 +86,36 @@ pub answers-headed : (more : Bool) (input places output left : List ℕ) (h : He
 answers-headed more input places output left h rest b s f i (c, m, q, st, ok) (end, r, p) = rw p (headed h rest c end f i m (rw (q, st) at r))
 
 -- ---- the limit
-pub take-limit : (xs : List ℕ) (n : ℕ) → n ≡ min (length xs) 65536 → (length (take n xs) ≡ n) × ((take n xs ≡ take 65536 xs) × (ltb n (length xs) ≡ ltb 65536 (length xs)))
-take-limit xs n e = (length-take-le n xs (omega arith), go (ltb 65536 (length xs)) refl)
+pub take-least : (n k : ℕ) (xs : List ℕ) → k ≡ min n (length xs) → take k xs ≡ take n xs
+take-least n k xs e = go (ltb n (length xs)) refl
   where
-    go : (x : Bool) → ltb 65536 (length xs) ≡ x → (take n xs ≡ take 65536 xs) × (ltb n (length xs) ≡ ltb 65536 (length xs))
-    go true q = let l = ltb-true 65536 (length xs) q in let m : n ≡ 65536 = omega arith in rw m (refl, refl)
-    go false q =
-        let l = ltb-false 65536 (length xs) q in
-        (take-all n xs (omega arith) ∙ sym (take-all 65536 xs l), le-ltb n (length xs) (omega arith) ∙ sym q)
+    go : (x : Bool) → ltb n (length xs) ≡ x → take k xs ≡ take n xs
+    go true q = let l = ltb-true n (length xs) q in let m : k ≡ n = omega arith in rw m refl
+    go false q = let l = ltb-false n (length xs) q in take-all k xs (omega arith) ∙ sym (take-all n xs l)
+
+pub take-limit : (xs : List ℕ) (n : ℕ) → n ≡ min (length xs) 65536 → (length (take n xs) ≡ n) × (take n xs ≡ take 65536 xs) × (ltb n (length xs) ≡ ltb 65536 (length xs))
+take-limit xs n e = (length-take-le n xs (omega arith), take-least 65536 n xs (omega arith), go (ltb 65536 (length xs)) refl)
+  where
+    go : (x : Bool) → ltb 65536 (length xs) ≡ x → ltb n (length xs) ≡ ltb 65536 (length xs)
+    go true q = let l = ltb-true 65536 (length xs) q in lt-ltb n (length xs) (omega arith) ∙ sym q
+    go false q = let l = ltb-false 65536 (length xs) q in le-ltb n (length xs) (omega arith) ∙ sym q
+
+-- a buffer of more bytes than the limit shows of a journal all that its answer hangs on
+same-more : (n : ℕ) (xs : List ℕ) → 65536 < n → ltb 65536 (length (take n xs)) ≡ ltb 65536 (length xs)
+same-more n xs h = rw length-take (go (ltb 65536 (length xs)) refl)
+  where
+    go : (x : Bool) → ltb 65536 (length xs) ≡ x → ltb 65536 (min n (length xs)) ≡ ltb 65536 (length xs)
+    go true q = let l = ltb-true 65536 (length xs) q in lt-ltb 65536 (min n (length xs)) (omega arith) ∙ sym q
+    go false q = let l = ltb-false 65536 (length xs) q in le-ltb 65536 (min n (length xs)) (omega arith) ∙ sym q
+
+whole-journal : (buffer whole : List ℕ) (n : ℕ) (s o s' : List ℕ) → 65536 < length buffer → ReadInto buffer n whole → Journal (take n buffer) s o s' → Journal whole s o s'
+whole-journal buffer whole n s o s' h e j =
+    rw (← same-more (length buffer) whole h, ← take-take 65536 (length buffer) whole (omega arith)) (rw e at j)
+
+pub read-whole : (buffer : List ℕ) (n k : ℕ) (s s' out out' : List ℕ) (end : ℕ) → 65536 < length buffer → k ≡ min n (length buffer)
+    → Replaying (take k buffer) s s' out out' (Written end) → ReplayingRead buffer n s s' out out' end
+read-whole buffer n k s s' out out' end h e (room, places, journal, rest) =
+    (λ whole w. whole-journal buffer whole n s (take end out') s' h w (rw (take-least n k buffer e) at journal), rest)
 
 -- ---- one answer only
 one-replay : (more : Bool) (S : Settings) (n : ℕ) (st : State) (input x y : List ℕ) (e f : State) → Replays more S n st input x e → Replays more S n st input y f → (x ≡ y) × (e ≡ f)

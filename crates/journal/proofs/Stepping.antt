@@ -9,9 +9,8 @@ use Rattle.error.specs.declared.Refusal.the-variants.{Time, Limit, Storage, Uns
 use Rattle.trip.specs.declared.Config.{Config}
 use Rattle.breaker.specs.declared.Breaker.{Breaker}
 use Rattle.breaker.specs.Record.{State, settings, state, sound}
-use Rattle.breaker.specs.Rules.{settling, aborting}
 use Rattle.breaker.specs.Calls.{after, kept, onSound}
-use Rattle.breaker.proofs.Keeps.{Keeps, sound-finish, sound-admission, sound-reset}
+use Rattle.breaker.proofs.Keeps.{Keeps, sound-settled, sound-aborted, sound-admission, sound-reset}
 use Rattle.breaker.proofs.Guard.{sound-called, sound-done}
 use Rattle.lines.specs.declared.Call.{Call}
 use Rattle.lines.specs.declared.Call.the-variants.{Admit, Success, Failure, Abort, Reset}
@@ -42,9 +41,9 @@ step-kept call b s s' ok t b' r e k f = step-of call b s s' t b' r (e ∙ sound-
 -- every call keeps a breaker sound
 keeps : (call : Call) → Keeps (called call)
 keeps (Admit t) = sound-admission false t
-keeps (Success t g p) = λ c st ok. sound-finish c t (settling (ticketOf g p) true) st ok
-keeps (Failure t g p) = λ c st ok. sound-finish c t (settling (ticketOf g p) false) st ok
-keeps (Abort t g p) = λ c st ok. sound-finish c 0 (aborting (ticketOf g p) false) st ok
+keeps (Success t g p) = λ c st ok. sound-settled c st ok t (ticketOf g p) true
+keeps (Failure t g p) = λ c st ok. sound-settled c st ok t (ticketOf g p) false
+keeps (Abort t g p) = λ c st ok. sound-aborted c st ok (ticketOf g p) false
 keeps (Reset t) = sound-reset
 
 -- what a step leaves of a sound breaker with the settings c

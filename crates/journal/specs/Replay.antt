@@ -44,7 +44,7 @@ called (Reset t) s st = reset st
 
 -- "then state, generation, inflight, successes, open-until"
 abbrev pub five : State → List ℕ
-five st = st .state ∷ st .generation ∷ st .inflight ∷ st .successes ∷ st .openUntil ∷ []
+five st = st .state ∷ st .generation ∷ st .counts .inflight ∷ st .counts .successes ∷ st .openUntil ∷ []
 
 -- "`G` generation probe, `B` delay, `E` number for another refusal, or `N`": by what the call was told, 0 with a ticket, 6, another number, or 0 alone
 abbrev pub accepted : List ℕ → List ℕ → List ℕ
@@ -98,16 +98,27 @@ pub data Answers (more : Bool) (input places : List ℕ) : List ℕ → List ℕ
 abbrev pub Journal : List ℕ → List ℕ → List ℕ → List ℕ → Type 0
 Journal input places output after = Answers (ltb 65536 (length input)) (take 65536 input) places output after
 
--- ---- the entry point: the room that the answer may need is tested first, then number 3
+-- ---- the entry points: the room that the answer may need is tested first, then number 3
 
--- a call's line has at least 4 bytes, its answer at most 149
+-- a call's line has at least 4 bytes and its answer at most 91, so 23 for each byte; and 149, what any one line may take
 abbrev pub room : List ℕ → ℕ
-room input = 38 * min (length input) 65536 + 149
+room input = 23 * min (length input) 65536 + 149
+
+-- an answer of n bytes lies in the buffer, and past it the buffer is as it was
+abbrev pub Kept : ℕ → List ℕ → List ℕ → Type 0
+Kept n out out' = (n ≤ length out') × (drop n out' ≡ drop n out)
 
 -- input, then storage and buffer before and after
 abbrev pub Replaying : List ℕ → List ℕ → List ℕ → List ℕ → List ℕ → Replayed → Type 0
-Replaying input s s' out out' (Replayed·is.Written n) =
-    (room input ≤ length out) × (length s ≡ 4096) × (n ≤ length out') × Journal input s (take n out') s' × (drop n out' ≡ drop n out)
+Replaying input s s' out out' (Replayed·is.Written n) = (room input ≤ length out) × (length s ≡ 4096) × Journal input s (take n out') s' × Kept n out out'
 Replaying input s s' out out' Replayed·is.TooSmall = (length out < room input) × (s' ≡ s) × (out' ≡ out)
 Replaying input s s' out out' (Replayed·is.Refused r) =
     (room input ≤ length out) × (length s ≡ 4096 → ⊥) × (r ≡ Storage) × (s' ≡ s) × (out' ≡ out)
+
+-- A journal of any length, `whole`, was read into a buffer: the n bytes that came are its first, all of them or as many as the buffer holds.
+abbrev pub ReadInto : List ℕ → ℕ → List ℕ → Type 0
+ReadInto buffer n whole = take n buffer ≡ take (length buffer) whole
+
+-- Then the answer is that of the whole journal.
+abbrev pub ReplayingRead : List ℕ → ℕ → List ℕ → List ℕ → List ℕ → List ℕ → ℕ → Type 0
+ReplayingRead buffer n s s' out out' end = ((whole : List ℕ) → ReadInto buffer n whole → Journal whole s (take end out') s') × Kept end out out'

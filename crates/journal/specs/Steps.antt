@@ -3,7 +3,7 @@ use Prim.Native.Nat.{ℕ, _≤_}
 use mathlib.Core.Path.{_≡_}
 use mathlib.Core.Bool.{Bool}
 use mathlib.Core.List.{List, _∷_}
-use lib.ListN.{length, drop}
+use lib.ListN.{drop}
 use Rattle.error.specs.Told.{Told}
 use Rattle.history.specs.Items.{padded}
 use Rattle.breaker.specs.declared.Breaker.{Breaker}
@@ -30,7 +30,3 @@ StepsTo call b s r s' = let left = onSound (called call) b s in (r .breaker ≡ 
 -- from line 2 on, from a record and its places, to the places that are left
 abbrev pub Ends : Bool → Breaker → List ℕ → List ℕ → List ℕ → List ℕ → Type 0
 Ends more b s input output s' = (end : State) × Replays more (settings (b .config)) 2 (state b s) input output end × (s' ≡ padded (end .list))
-
--- n bytes of a buffer are written, and the rest of it is as it was
-abbrev pub Kept : ℕ → List ℕ → List ℕ → Type 0
-Kept n out out' = (n ≤ length out') × (drop n out' ≡ drop n out)

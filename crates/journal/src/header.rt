@@ -5,17 +5,20 @@ ghost use Rattle.trip.specs.Settings.{builtOf, clampedRatio};
 ghost use Rattle.journal.specs.Replay.{builderOf};
 use breaker::Breaker;
 use breaker::Shared;
+use breaker::no_counts;
 use lines::Header;
 use trip::CircuitBreakerBuilder;
 use trip::Config;
 use trip::Duration;
+use trip::INFINITY_BITS;
+use trip::SIGN_BIT;
 use trip::Trip;
 
 // The ratio of the given bits. A NaN's become 1.0 here, as normalising makes of it.
 fn ratio_of(bits: u64) -> f64
     ensures { λ r. ⌜ clampedRatio r ≡ clampedRatio (ofBits binary64 bits) ⌝ }
 {
-    if bits % 0x8000_0000_0000_0000 > 0x7ff0_0000_0000_0000 {
+    if bits % SIGN_BIT > INFINITY_BITS {
         return 1.0;
     }
     f64::from_bits(bits)
@@ -72,9 +75,7 @@ pub(crate) fn blank() -> Breaker {
             state: 0,
             generation: 0,
             run: 0,
-            inflight: 0,
-            trait_probes: 0,
-            successes: 0,
+            counts: no_counts(),
             open_until: 0,
             len: 0,
         },

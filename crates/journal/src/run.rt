@@ -4,8 +4,8 @@ ghost use mathlib.Core.Bool.{true};
 ghost use Prim.Native.Nat.{_+_, _*_, _≤_};
 ghost use lib.ListN.{length, take, drop};
 ghost use Rattle.breaker.specs.Record.{sound};
-ghost use Rattle.journal.specs.Replay.{Answers};
-ghost use Rattle.journal.specs.Steps.{Ends, Kept};
+ghost use Rattle.journal.specs.Replay.{Answers, Kept};
+ghost use Rattle.journal.specs.Steps.{Ends};
 use crate::header::blank;
 use crate::header::builder_of;
 use crate::step::step;
@@ -26,7 +26,7 @@ fn replay_calls(
     list: &mut [u64],
     out: &mut [u8],
 ) -> usize
-    requires { ⌜ 38 * length (now s) + 149 ≤ length (now out) ⌝ }
+    requires { ⌜ 23 * length (now s) + 149 ≤ length (now out) ⌝ }
     requires { ⌜ sound start (now list) ≡ true ⌝ }
     ensures { λ r. ⌜ Ends more start (now (list .entry)) (drop at (now (s .entry))) (take r (now (out .exit))) (now (list .exit)) ⌝ }
     ensures { λ r. ⌜ Kept r (now (out .entry)) (now (out .exit)) ⌝ }
@@ -56,7 +56,7 @@ fn replay_calls(
 
 // The header, the breaker that it makes, and the calls.
 pub(crate) fn replay_all(s: &[u8], more: bool, list: &mut [u64], out: &mut [u8]) -> usize
-    requires { ⌜ 38 * length (now s) + 149 ≤ length (now out) ⌝ }
+    requires { ⌜ 23 * length (now s) + 149 ≤ length (now out) ⌝ }
     requires { ⌜ length (now list) ≡ 4096 ⌝ }
     ensures { λ r. ⌜ Answers more (now (s .entry)) (now (list .entry)) (take r (now (out .exit))) (now (list .exit)) ⌝ }
     ensures { λ r. ⌜ Kept r (now (out .entry)) (now (out .exit)) ⌝ }

@@ -79,8 +79,8 @@ pub(crate) fn write_answer(out: &mut [u8], at: usize, answer: Answer, breaker: B
         answer.second,
         h.state as u64,
         h.generation,
-        h.inflight as u64,
-        h.successes as u64,
+        h.counts.inflight as u64,
+        h.counts.successes as u64,
         h.open_until,
     ];
     let skipped = answer.skipped;

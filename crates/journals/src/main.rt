@@ -4,6 +4,8 @@
 ghost use mathlib.Core.Path.{_≡_};
 ghost use Prim.Native.Nat.{_≤_, _<_, min};
 ghost use lib.ListN.{length};
+use history::PLACES;
+use journal::ROOM;
 use journal::Replayed;
 use libc::STDIN_FILENO;
 use libc::STDOUT_FILENO;
@@ -15,17 +17,12 @@ struct Case {
     end: usize,
 }
 
-// Room for the container. One that does not fit is cut, and its last journal differs.
-fn input_buffer() -> [u8; 4000000] {
-    [0; 4000000]
+fn output_buffer() -> [u8; ROOM] {
+    [0; ROOM]
 }
 
-fn output_buffer() -> [u8; 2490517] {
-    [0; 2490517]
-}
-
-fn places() -> [u64; 4096] {
-    [0; 4096]
+fn places() -> [u64; PLACES] {
+    [0; PLACES]
 }
 
 // The place after the next byte `stop`, or the end.
@@ -137,7 +134,8 @@ fn run(s: &[u8]) {
 }
 
 fn main() {
-    let mut input = input_buffer();
+    // Room for the container. One that does not fit is cut, and its last journal differs.
+    let mut input = [0; 2700000];
     let n = io::read_full(STDIN_FILENO, &mut input);
     run(&input[..n]);
 }

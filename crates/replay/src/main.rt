@@ -1,62 +1,66 @@
 // Replays the journal on standard input to standard output. Where that fails it says so on standard error.
-// The files stdin and stdout are document 01's case.
+// The file stdin is document 01's case, filled to the limit, and a line more; stdout is the Rust's answer (`journal past_the_limit` of oracle/).
 ghost use Prim.Native.Nat.{_≤_};
 ghost use lib.ListN.{length};
-ghost use Rattle.io.specs.Counts.{Counts};
-use journal::Replayed;
+ghost use Rattle.replay.specs.Reading.{Came};
+use history::PLACES;
+use journal::READ;
+use journal::ROOM;
 use libc::STDERR_FILENO;
 use libc::STDIN_FILENO;
 use libc::STDOUT_FILENO;
 
-// How many bytes were read, and whether a read failed.
-struct Input {
+// What one read brought, and whether it failed.
+struct Part {
     bytes: usize,
     failed: bool,
 }
 
-// Room for a byte more than the limit, which tells that the input is longer.
-fn input_buffer() -> [u8; 65537] {
-    [0; 65537]
+// What was read: all of the input, as much of it as there is room for, or nothing to go by, as a read failed.
+enum Input {
+    Whole(usize),
+    Full(usize),
+    Failed,
 }
 
-// Room for the answer to 65,536 bytes.
-fn output_buffer() -> [u8; 2490517] {
-    [0; 2490517]
+fn input_buffer() -> [u8; READ] {
+    [0; READ]
 }
 
-fn places() -> [u64; 4096] {
-    [0; 4096]
+fn output_buffer() -> [u8; ROOM] {
+    [0; ROOM]
 }
 
-// One read.
-fn read_some(buf: &mut [u8]) -> Input
+fn places() -> [u64; PLACES] {
+    [0; PLACES]
+}
+
+fn read_some(buf: &mut [u8]) -> Part
     ensures { λ r. ⌜ r .bytes ≤ length (now (buf .entry)) ⌝ }
 {
     let got = libc::read(STDIN_FILENO, buf);
-    Input {
+    Part {
         bytes: io::count(got, buf),
         failed: got < 0,
     }
 }
 
-// Reads until the buffer is full, the input ends or a read fails.
+// Reads until the input ends, the buffer is full or a read fails.
 fn read_input(buf: &mut [u8]) -> Input
-    ensures { λ r. ⌜ Counts (r .bytes) (now (buf .exit)) ⌝ }
+    ensures { λ r. ⌜ Came (now (buf .exit)) r ⌝ }
 {
-    let mut done: usize = 0;
-    let mut failed = false;
-    while done < buf.len() {
-        let more = read_some(&mut buf[done..]);
-        failed = more.failed;
-        if more.bytes == 0 {
-            break;
+    let mut n: usize = 0;
+    while n < buf.len() {
+        let part = read_some(&mut buf[n..]);
+        if part.failed {
+            return Input::Failed;
         }
-        done += more.bytes;
+        if part.bytes == 0 {
+            return Input::Whole(n);
+        }
+        n += part.bytes;
     }
-    Input {
-        bytes: done,
-        failed,
-    }
+    Input::Full(n)
 }
 
 fn complain(text: &[u8]) {
@@ -69,23 +73,19 @@ fn show(out: &[u8]) {
     }
 }
 
-fn answer(input: &[u8]) {
+// Answers the journal of which n bytes were read.
+fn answer(input: &[u8; READ], n: usize) {
     let mut list = places();
     let mut out = output_buffer();
-    match journal::replay(input, &mut list, &mut out) {
-        Replayed::Written(n) => show(&out[..n]),
-        Replayed::TooSmall => complain(b"replay: no room for the answer\n"),
-        Replayed::Refused(_) => complain(b"replay: refused\n"),
-    }
+    let end = journal::replay_read(input, n, &mut list, &mut out);
+    show(&out[..end]);
 }
 
 fn main() {
     let mut buffer = input_buffer();
-    let input = read_input(&mut buffer);
-    let n = input.bytes;
-    if input.failed {
-        complain(b"replay: standard input could not be read\n");
-        return;
+    match read_input(&mut buffer) {
+        Input::Whole(n) => answer(&buffer, n),
+        Input::Full(n) => answer(&buffer, n),
+        Input::Failed => complain(b"replay: standard input could not be read\n"),
     }
-    answer(&buffer[..n]);
 }

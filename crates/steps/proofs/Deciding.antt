@@ -157,9 +157,9 @@ module _ (b : Breaker) (s : List ℕ) (c : Config) (st : State) (h : Holds c st 
   pub window-fits : (w : ℕ) → itemsOf c ≡ Outcomes w → (1 ≤ w) × (w ≤ 4096) × (b .shared .len ≤ w)
   window-fits w e = List·.fits-outcomes w (b .shared .len) (List·.sound→ (Outcomes w) (b .shared .len) s (rw e at listed) .lengthFits)
 
-  -- the failures from a place on, of which there are fewer than 2^32
+  -- the failures from a place on
   pub failures-counted : (w first : ℕ) → itemsOf c ≡ Outcomes w → (n : ℕ) → n ≡ itemSum (drop first (view (b .shared .len) s)) % 2 ^ 64
-      → (n % 2 ^ 32 ≡ failures (drop first (st .list))) × (failures (drop first (st .list)) ≤ 4096)
+      → (n ≡ failures (drop first (st .list))) × (n ≤ 4096)
   failures-counted w first e n q =
       let l = rw e at listed in
       let a : n ≡ failures (drop first (view (b .shared .len) s)) = q ∙ failures-held w (b .shared .len) first s l in

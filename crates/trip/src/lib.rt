@@ -6,6 +6,15 @@ ghost use Rattle.trip.specs.Settings.{millisTold, millisOf, ofMillis, cl
 ghost use Rattle.trip.specs.Policy.{runReached, ratioReached, timesReached, boardFigure};
 use error::Refusal;
 
+// The sign among the bits of an f64. Alone it is -0.0.
+pub const SIGN_BIT: u64 = 0x8000_0000_0000_0000;
+
+// The bits of 1.0.
+pub const ONE_BITS: u64 = 0x3ff0_0000_0000_0000;
+
+// The bits of infinity. Those of a NaN, without the sign, are above them.
+pub const INFINITY_BITS: u64 = 0x7ff0_0000_0000_0000;
+
 // Whole seconds and the nanoseconds past them.
 pub struct Duration {
     pub secs: u64,
@@ -90,17 +99,22 @@ fn at_most(n: u32, most: u32) -> u32
     n
 }
 
-// NaN becomes 1.0; the rest is clamped to 0.0 to 1.0, and -0.0 stays.
+// NaN becomes 1.0; the rest is clamped to 0.0 to 1.0, and -0.0 stays. A number is judged by its bits, which no floating-point mode changes;
+// a NaN, whose bits can't be asked for, differs from itself in every mode.
 fn clamped(ratio: f64) -> f64
     ensures { λ r. ⌜ r ≡ clampedRatio ratio ⌝ }
 {
     if ratio != ratio {
         return 1.0;
     }
-    if ratio < 0.0 {
+    let bits = f64::to_bits(ratio);
+    if bits > SIGN_BIT {
         return 0.0;
     }
-    if ratio > 1.0 {
+    if bits == SIGN_BIT {
+        return ratio;
+    }
+    if bits > ONE_BITS {
         return 1.0;
     }
     ratio
@@ -334,7 +348,7 @@ pub fn ratio_trips(failed: u32, calls: u32, min_calls: u32, ratio_bits: u64) -> 
     if calls < min_calls {
         return false;
     }
-    if ratio_bits % 0x8000_0000_0000_0000 > 0x7ff0_0000_0000_0000 {
+    if ratio_bits % SIGN_BIT > INFINITY_BITS {
         return false;
     }
     let ratio = f64::from_bits(ratio_bits);

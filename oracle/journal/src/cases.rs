@@ -8,6 +8,8 @@ mod setting;
 mod shape;
 mod size;
 
+pub use size::past_the_limit;
+
 use crate::container::Case;
 
 /// A name and a journal.

@@ -14,6 +14,7 @@ use journal::{LIMIT, cases, draw, replay};
 const USAGE: &str = "\
 usage: journal replay                           answers standard input
        journal cases                            the fixed journals
+       journal past_the_limit                   a journal of 65,540 bytes
        journal random SEED COUNT [DIR]          random journals, into files if DIR is given
        journal compare SEED COUNT PROGRAM ...   runs PROGRAM on the random journals
        journal compare cases PROGRAM ...        runs PROGRAM on the fixed ones";
@@ -34,6 +35,7 @@ fn run(args: &[&str]) -> io::Result<ExitCode> {
     match *args {
         ["replay"] => answer(),
         ["cases"] => write(cases::all().into_iter()),
+        ["past_the_limit"] => past_the_limit(),
         ["random", seed, count] => write(random(seed, count)?),
         ["random", seed, count, dir] => write_files(random(seed, count)?, Path::new(dir)),
         ["compare", "cases", _, ..] => report(cases::all().into_iter(), &args[2..]),
@@ -55,6 +57,13 @@ fn answer() -> io::Result<ExitCode> {
     let most = LIMIT as u64 + 1;
     io::stdin().lock().take(most).read_to_end(&mut input)?;
     io::stdout().lock().write_all(&replay(&input))?;
+    Ok(ExitCode::SUCCESS)
+}
+
+/// The journal that the gate runs crates/replay on.
+fn past_the_limit() -> io::Result<ExitCode> {
+    let journal = cases::past_the_limit();
+    io::stdout().lock().write_all(journal.as_bytes())?;
     Ok(ExitCode::SUCCESS)
 }
 

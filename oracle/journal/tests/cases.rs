@@ -34,7 +34,7 @@ fn take(rest: &mut &[u8]) -> (String, Vec<u8>, Vec<u8>) {
 #[test]
 fn the_container_is_small_always_the_same_and_reads_back() {
     let bytes = container(&CASES);
-    assert!(bytes.len() < 3_000_000, "{} bytes", bytes.len());
+    assert!(bytes.len() < 2_700_000, "{} bytes", bytes.len());
     assert!(bytes == container(&cases::all()));
     let mut rest = &bytes[..];
     for case in &*CASES {

@@ -1,7 +1,7 @@
 -- `handle::finish_all` is thin over `circuit::finish_all`. Assumes nothing.
 use mathlib.Core.List.{[], _∷_}
 use base.Logic.{id⊢}
-use Rattle.thin.proofs.Types.{u64, bool, val, slice, mutSlice, mutRef}
+use Rattle.thin.proofs.Types.{u8, u64, val, slice, mutSlice, mutRef}
 use Rattle.thin.proofs.Mut.{mut-spec}
 use Rattle.handle.proofs.Types.{breaker, finished, settled}
 use Rattle.circuit.proofs.finish_all as g
@@ -15,6 +15,6 @@ use Rattle.handle.proofs.finish_all.Code as code
 pub finish-all-spec : {M : Type 1} → stated.statement M
 unfolding code.routine
 finish-all-spec 𝓤 H 𝓜 𝓖 𝓡 =
-    mut-spec finished (mutRef breaker ∷ mutSlice u64 ∷ val u64 ∷ slice u64 ∷ slice bool ∷ slice bool ∷ slice bool ∷ mutSlice u64 ∷ []) settled 𝓤 H 𝓜 𝓖 𝓡 (f.clauses 𝓤 H (𝓖 .A) (𝓜 .mem) (𝓡 .run)) (g.clauses 𝓤 H (𝓖 .A) (𝓜 .mem) (𝓡 .run))
+    mut-spec finished (mutRef breaker ∷ mutSlice u64 ∷ val u64 ∷ slice u64 ∷ slice u8 ∷ slice u8 ∷ slice u8 ∷ mutSlice u64 ∷ []) settled 𝓤 H 𝓜 𝓖 𝓡 (f.clauses 𝓤 H (𝓖 .A) (𝓜 .mem) (𝓡 .run)) (g.clauses 𝓤 H (𝓖 .A) (𝓜 .mem) (𝓡 .run))
     record { gh = λ κs a x. x; req = λ κs a x. id⊢ 𝓤 _; ens = λ κs a x z ws. id⊢ 𝓤 _ }
     code.env key.name g-def.name (code.unfolded 𝓤 H 𝓜 𝓡) g-def.routine code.calls-circuit·finish-all (g-thm.met 𝓤 H 𝓜 𝓖 𝓡)

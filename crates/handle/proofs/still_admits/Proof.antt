@@ -1,12 +1,12 @@
--- `handle::still_admits` is thin over `breaker::still_admits`. Assumes nothing.
+-- `handle::still_admits` is thin over `admission::still_admits`. Assumes nothing.
 use mathlib.Core.List.{[], _∷_}
 use base.Logic.{id⊢}
 use Rattle.thin.proofs.Types.{u64, val, slice, ref}
 use Rattle.thin.proofs.Look.{look-spec}
 use Rattle.handle.proofs.Types.{breaker, standing, ticket}
-use Rattle.breaker.proofs.still_admits as g
-use Rattle.breaker.proofs.still_admits.Symbol as g-def
-use Rattle.breaker.proofs.still_admits.Met as g-thm
+use Rattle.admission.proofs.still_admits as g
+use Rattle.admission.proofs.still_admits.Symbol as g-def
+use Rattle.admission.proofs.still_admits.Met as g-thm
 use Rattle.handle.proofs.still_admits as f
 use Rattle.handle.proofs.still_admits.Key as key
 use Rattle.handle.proofs.still_admits.Statement as stated
@@ -17,4 +17,4 @@ unfolding code.routine
 still-admits-spec 𝓤 H 𝓜 𝓖 𝓡 =
     look-spec standing (ref breaker ∷ slice u64 ∷ val u64 ∷ val ticket ∷ []) tt 𝓤 H 𝓜 𝓖 𝓡 (f.clauses 𝓤 H (𝓖 .A) (𝓜 .mem) (𝓡 .run)) (g.clauses 𝓤 H (𝓖 .A) (𝓜 .mem) (𝓡 .run))
     record { gh = λ κs a x. x; req = λ κs a x. id⊢ 𝓤 _; ens = λ κs a x z ws. id⊢ 𝓤 _ }
-    code.env key.name g-def.name (code.unfolded 𝓤 H 𝓜 𝓡) g-def.routine code.calls-breaker·still-admits (g-thm.met 𝓤 H 𝓜 𝓖 𝓡)
+    code.env key.name g-def.name (code.unfolded 𝓤 H 𝓜 𝓡) g-def.routine code.calls-admission·still-admits (g-thm.met 𝓤 H 𝓜 𝓖 𝓡)

@@ -14,7 +14,7 @@ enum-known-n : tie.Need-enum-known-n
 enum-known-n c = search needs
 
 within : (c : tie.After-known-told) → c .before .n .given .0 .0 ≤ length (c .before .before .before .before .before .before .before .replay .last .1 .1 .0)
-within c = (rw (c .before .n .given .1) at (c .before .before .before .before .before .before .before .replay .ensures)) .2
+within c = (rw (c .before .n .given .1) at (c .before .before .before .before .before .before .before .replay .ensures)) .3 .0
 
 slice-reshare-prefix-same : tie.Need-slice-reshare-prefix-same
 slice-reshare-prefix-same c = within (c)

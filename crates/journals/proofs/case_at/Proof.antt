@@ -36,8 +36,9 @@ at-most-requires-2 c κs = search needs
 
 returns : tie.Need-returns
 returns c =
-    let first = c .before .before .before .before .before .before .before .after .ensures in
-    let a = first .2 (c .before .before .before .before .before .before .before .before .before .pre) in
+    let p = c .before .before .before .before .before .before .before in
+    let first = p .after .ensures in
+    let a = first .2 (p .before .before .pre) in
     (omega arith, omega arith, omega arith, omega arith)
 
 pub case-at-spec : {M : Type 1} → statement M

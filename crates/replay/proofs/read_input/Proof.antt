@@ -1,18 +1,17 @@
 -- `replay::read_input` meets its contract. Assumes nothing.
 use Prim.Native.Nat.{_≤_, _-_}
-use mathlib.Core.Path.{_≡_, refl, sym}
+use mathlib.Core.Path.{_≡_, refl}
 use native.Mathlib.Omega.{arith}
 use borrow.Author.Needs.{needs}
 use lib.ListN.{length}
-use lib.Seq.{length-take-le}
 use Rattle.replay.proofs.read_input.Statement.{statement}
 use Rattle.replay.proofs.read_input.Tie as tie
 
 abbrev Inv-loop : tie.InvT-loop
-Inv-loop buf₀ done₀ failed₀ buf done failed = (done ≤ length buf) × (length buf ≡ length buf₀)
+Inv-loop buf₀ n₀ buf n = (n ≤ length buf) × (length buf ≡ length buf₀)
 
 abbrev μ-loop : tie.MeasureT-loop
-μ-loop buf₀ done₀ failed₀ buf done failed = length buf - done
+μ-loop buf₀ n₀ buf n = length buf - n
 
 loop-holds : tie.Need-loop-holds Inv-loop μ-loop
 loop-holds c = (omega arith, refl)
@@ -29,8 +28,20 @@ part-read-some-end c = search needs
 read-some-requires : tie.Need-read-some-requires Inv-loop μ-loop
 read-some-requires c κs = search needs
 
-add-done : tie.Need-add-done Inv-loop μ-loop
-add-done c = search needs
+same-length : tie.Need-same-length Inv-loop μ-loop
+same-length c = search needs
+
+returns : tie.Need-returns Inv-loop μ-loop
+returns c = search needs
+
+same-length-2 : tie.Need-same-length-2 Inv-loop μ-loop
+same-length-2 c = search needs
+
+returns-2 : tie.Need-returns-2 Inv-loop μ-loop
+returns-2 c = search needs
+
+add-n : tie.Need-add-n Inv-loop μ-loop
+add-n c = search needs
 
 loop-less : tie.Need-loop-less Inv-loop μ-loop
 loop-less c = search needs
@@ -38,17 +49,11 @@ loop-less c = search needs
 loop-again : tie.Need-loop-again Inv-loop μ-loop
 loop-again c = search needs
 
-same-length : tie.Need-same-length Inv-loop μ-loop
-same-length c = search needs
+same-length-3 : tie.Need-same-length-3 Inv-loop μ-loop
+same-length-3 c = search needs
 
-returns : tie.Need-returns Inv-loop μ-loop
-returns c = (search needs, sym (length-take-le _ _ (search needs)))
-
-same-length-2 : tie.Need-same-length-2 Inv-loop μ-loop
-same-length-2 c = search needs
-
-returns-2 : tie.Need-returns-2 Inv-loop μ-loop
-returns-2 c = (search needs, sym (length-take-le _ _ (search needs)))
+returns-3 : tie.Need-returns-3 Inv-loop μ-loop
+returns-3 c = search needs
 
 pub read-input-spec : {M : Type 1} → statement M
 read-input-spec =
@@ -61,10 +66,12 @@ read-input-spec =
     part-read-some-start
     part-read-some-end
     read-some-requires
-    add-done
-    loop-less
-    loop-again
     same-length
     returns
     same-length-2
-    returns-2)
+    returns-2
+    add-n
+    loop-less
+    loop-again
+    same-length-3
+    returns-3)

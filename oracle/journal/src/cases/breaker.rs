@@ -7,11 +7,12 @@ pub fn journals() -> impl Iterator<Item = Named> {
     fixed.map(|&(name, journal)| named(name, journal))
 }
 
+/// Document 01's case.
+pub const DOCUMENT: &str =
+    "C 2 1000 1 1\n10 A\n20 F 0 0\n30 F 0 0\n500 A\n1030 A\n1040 S 1 1\n1050 S 2 1\n";
+
 const JOURNALS: [(&str, &str); 30] = [
-    (
-        "document",
-        "C 2 1000 1 1\n10 A\n20 F 0 0\n30 F 0 0\n500 A\n1030 A\n1040 S 1 1\n1050 S 2 1\n",
-    ),
+    ("document", DOCUMENT),
     // Trips, half-open with two trials, reopens, closes.
     (
         "consecutive",

@@ -1,5 +1,6 @@
 //! Around the limit of 65,536 bytes.
 
+use super::breaker::DOCUMENT;
 use super::{Named, named};
 use crate::LIMIT;
 use crate::pad::pad;
@@ -24,9 +25,18 @@ pub fn journals() -> impl Iterator<Item = Named> {
     .into_iter()
 }
 
-/// A journal of so many bytes, its last a feed: stale tickets, short answers.
+/// Document 01's case, filled to the limit, and a line more.
+pub fn past_the_limit() -> String {
+    filled_from(DOCUMENT, LIMIT) + "1 A\n"
+}
+
 fn filled(bytes: usize) -> String {
-    let mut journal = "C 2 1000 1 1\n".to_owned();
+    filled_from("C 2 1000 1 1\n", bytes)
+}
+
+/// A journal of so many bytes, its last a feed: stale tickets, short answers.
+fn filled_from(start: &str, bytes: usize) -> String {
+    let mut journal = start.to_owned();
     let stale = "18446744073709551615 S 18446744073709551615 1\n";
     while bytes - journal.len() > stale.len() + 30 {
         journal += stale;

@@ -11,7 +11,9 @@ use Rattle.admission.proofs.calls.admit_as.Statement.{statement}
 use Rattle.admission.proofs.calls.admit_as.Tie as tie
 
 tested : (c : tie.After-enum-told) → sound (c .before .before .before .before .before .args .breaker) (c .before .before .before .before .before .args .list .now) ≡ true
-tested c = tested-sound (c .before .before .before .before .before .args .breaker) (c .before .before .before .before .before .args .list .now) (sym (c .enum-told .given .1) ∙ c .before .before .test .ensures)
+tested c =
+    let start = c .before .before .before .before .before in
+    tested-sound (start .args .breaker) (start .args .list .now) (sym (c .enum-told .given .1) ∙ c .before .before .test .ensures)
 
 test-requires : tie.Need-test-requires
 test-requires c κs = search needs
@@ -35,23 +37,29 @@ same-length : tie.Need-same-length
 same-length c = search needs
 
 returns : tie.Need-returns
-returns c = sound-refused (Calls.admission (c .before .before .before .before .before .before .args .via-trait) (c .before .before .before .before .before .before .args .now-ms)) (c .before .before .before .before .before .before .args .breaker) (c .before .before .before .before .before .before .args .list .now) (c .before .r .given .0 .0) (sym (c .before .r .given .1) ∙ c .before .before .before .test .ensures)
+returns c =
+    let start = c .before .before .before .before .before .before in
+    sound-refused (Calls.admission (start .args .via-trait) (start .args .now-ms)) (start .args .breaker) (start .args .list .now) (c .before .r .given .0 .0) (sym (c .before .r .given .1) ∙ c .before .before .before .test .ensures)
 
 same-length-2 : tie.Need-same-length-2
 same-length-2 c = search needs
 
 returns-2 : tie.Need-returns-2
 returns-2 c =
-    admitted-shed (c .before .before .before .before .before .before .before .before .before .args .now-ms) (c .before .before .before .before .before .before .before .before .before .args .breaker) (c .before .before .before .before .before .before .before .before .before .args .list .now) (tested (c .before .before .before .before)) (c .before .before .before .before .before .before .before .before .before .args .via-trait) (c .before .d .given .0 .0) (sym (c .before .d .given .1) ∙ c .before .before .before .admit-as-locked .ensures (c .before .before .before .before .before .before .before .before .before .args .breaker .config) (state (c .before .before .before .before .before .before .before .before .before .args .breaker) (c .before .before .before .before .before .before .before .before .before .args .list .now)) (holds (c .before .before .before .before .before .before .before .before .before .args .breaker) (c .before .before .before .before .before .before .before .before .before .args .list .now) (tested (c .before .before .before .before)) .0))
-    ∙ sound-done (Calls.admission (c .before .before .before .before .before .before .before .before .before .args .via-trait) (c .before .before .before .before .before .before .before .before .before .args .now-ms)) (c .before .before .before .before .before .before .before .before .before .args .breaker) (c .before .before .before .before .before .before .before .before .before .args .list .now) (tested (c .before .before .before .before))
+    let place = c .before .before .before .before in
+    let start = place .before .before .before .before .before in
+    admitted-shed (start .args .now-ms) (start .args .breaker) (start .args .list .now) (tested (place)) (start .args .via-trait) (c .before .d .given .0 .0) (sym (c .before .d .given .1) ∙ c .before .before .before .admit-as-locked .ensures (start .args .breaker .config) (state (start .args .breaker) (start .args .list .now)) (holds (start .args .breaker) (start .args .list .now) (tested (place)) .0))
+    ∙ sound-done (Calls.admission (start .args .via-trait) (start .args .now-ms)) (start .args .breaker) (start .args .list .now) (tested (place))
 
 same-length-3 : tie.Need-same-length-3
 same-length-3 c = search needs
 
 returns-3 : tie.Need-returns-3
 returns-3 c =
-    admitted-granted (c .before .before .before .before .before .before .before .before .before .args .now-ms) (c .before .before .before .before .before .before .before .before .before .args .breaker) (c .before .before .before .before .before .before .before .before .before .args .list .now) (tested (c .before .before .before .before)) (c .before .before .before .before .before .before .before .before .before .args .via-trait) (c .before .t .given .0 .0) (c .before .t .given .0 .1 .0) (sym (c .before .t .given .1) ∙ c .before .before .before .admit-as-locked .ensures (c .before .before .before .before .before .before .before .before .before .args .breaker .config) (state (c .before .before .before .before .before .before .before .before .before .args .breaker) (c .before .before .before .before .before .before .before .before .before .args .list .now)) (holds (c .before .before .before .before .before .before .before .before .before .args .breaker) (c .before .before .before .before .before .before .before .before .before .args .list .now) (tested (c .before .before .before .before)) .0))
-    ∙ sound-done (Calls.admission (c .before .before .before .before .before .before .before .before .before .args .via-trait) (c .before .before .before .before .before .before .before .before .before .args .now-ms)) (c .before .before .before .before .before .before .before .before .before .args .breaker) (c .before .before .before .before .before .before .before .before .before .args .list .now) (tested (c .before .before .before .before))
+    let place = c .before .before .before .before in
+    let start = place .before .before .before .before .before in
+    admitted-granted (start .args .now-ms) (start .args .breaker) (start .args .list .now) (tested (place)) (start .args .via-trait) (c .before .t .given .0 .0) (c .before .t .given .0 .1 .0) (sym (c .before .t .given .1) ∙ c .before .before .before .admit-as-locked .ensures (start .args .breaker .config) (state (start .args .breaker) (start .args .list .now)) (holds (start .args .breaker) (start .args .list .now) (tested (place)) .0))
+    ∙ sound-done (Calls.admission (start .args .via-trait) (start .args .now-ms)) (start .args .breaker) (start .args .list .now) (tested (place))
 
 pub admit-as-spec : {M : Type 1} → statement M
 admit-as-spec =

@@ -30,20 +30,27 @@ enum-known-d : tie.Need-enum-known-d
 enum-known-d c = search needs
 
 tested : (c : tie.After-enum-told) → sound (c .before .before .before .before .args .breaker) (c .before .before .before .before .args .list .now) ≡ true
-tested c = tested-sound (c .before .before .before .before .args .breaker) (c .before .before .before .before .args .list .now) (sym (c .enum-told .given .1) ∙ c .before .before .test .ensures)
+tested c =
+    let start = c .before .before .before .before in
+    tested-sound (start .args .breaker) (start .args .list .now) (sym (c .enum-told .given .1) ∙ c .before .before .test .ensures)
 
 returns : tie.Need-returns
-returns c = asked-refused (Calls.standing (c .before .before .before .before .before .args .now-ms) (c .before .before .before .before .before .args .ticket)) (c .before .before .before .before .before .args .breaker) (c .before .before .before .before .before .args .list .now) (c .before .r .given .0 .0) (sym (c .before .r .given .1) ∙ c .before .before .before .test .ensures)
+returns c =
+    let start = c .before .before .before .before .before in
+    asked-refused (Calls.standing (start .args .now-ms) (start .args .ticket)) (start .args .breaker) (start .args .list .now) (c .before .r .given .0 .0) (sym (c .before .r .given .1) ∙ c .before .before .before .test .ensures)
 
 returns-2 : tie.Need-returns-2
 returns-2 c =
-    stands (c .before .before .before .before .before .before .before .args .now-ms) (c .before .before .before .before .before .before .before .args .ticket) (state (c .before .before .before .before .before .before .before .args .breaker) (c .before .before .before .before .before .before .before .args .list .now)) _ (sym (c .enum-told2 .given .1) ∙ c .before .before .still-admits-locked .ensures (c .before .before .before .before .before .before .before .args .breaker .config) (state (c .before .before .before .before .before .before .before .args .breaker) (c .before .before .before .before .before .before .before .args .list .now)) (holds (c .before .before .before .before .before .before .before .args .breaker) (c .before .before .before .before .before .before .before .args .list .now) (tested (c .before .before .before)) .0))
-    ∙ asked-done (Calls.standing (c .before .before .before .before .before .before .before .args .now-ms) (c .before .before .before .before .before .before .before .args .ticket)) (c .before .before .before .before .before .before .before .args .breaker) (c .before .before .before .before .before .before .before .args .list .now) (tested (c .before .before .before))
+    let start = c .before .before .before .before .before .before .before in
+    stands (start .args .now-ms) (start .args .ticket) (state (start .args .breaker) (start .args .list .now)) _ (sym (c .enum-told2 .given .1) ∙ c .before .before .still-admits-locked .ensures (start .args .breaker .config) (state (start .args .breaker) (start .args .list .now)) (holds (start .args .breaker) (start .args .list .now) (tested (c .before .before .before)) .0))
+    ∙ asked-done (Calls.standing (start .args .now-ms) (start .args .ticket)) (start .args .breaker) (start .args .list .now) (tested (c .before .before .before))
 
 returns-3 : tie.Need-returns-3
 returns-3 c =
-    stands (c .before .before .before .before .before .before .before .before .args .now-ms) (c .before .before .before .before .before .before .before .before .args .ticket) (state (c .before .before .before .before .before .before .before .before .args .breaker) (c .before .before .before .before .before .before .before .before .args .list .now)) _ (sym (c .before .d .given .1) ∙ c .before .before .before .still-admits-locked .ensures (c .before .before .before .before .before .before .before .before .args .breaker .config) (state (c .before .before .before .before .before .before .before .before .args .breaker) (c .before .before .before .before .before .before .before .before .args .list .now)) (holds (c .before .before .before .before .before .before .before .before .args .breaker) (c .before .before .before .before .before .before .before .before .args .list .now) (tested (c .before .before .before .before)) .0))
-    ∙ asked-done (Calls.standing (c .before .before .before .before .before .before .before .before .args .now-ms) (c .before .before .before .before .before .before .before .before .args .ticket)) (c .before .before .before .before .before .before .before .before .args .breaker) (c .before .before .before .before .before .before .before .before .args .list .now) (tested (c .before .before .before .before))
+    let place = c .before .before .before .before in
+    let start = place .before .before .before .before in
+    stands (start .args .now-ms) (start .args .ticket) (state (start .args .breaker) (start .args .list .now)) _ (sym (c .before .d .given .1) ∙ c .before .before .before .still-admits-locked .ensures (start .args .breaker .config) (state (start .args .breaker) (start .args .list .now)) (holds (start .args .breaker) (start .args .list .now) (tested (place)) .0))
+    ∙ asked-done (Calls.standing (start .args .now-ms) (start .args .ticket)) (start .args .breaker) (start .args .list .now) (tested (place))
 
 pub still-admits-spec : {M : Type 1} → statement M
 still-admits-spec =

@@ -16,7 +16,9 @@ use Rattle.admission.proofs.limiter.acquire_cost.Statement.{statement}
 use Rattle.admission.proofs.limiter.acquire_cost.Tie as tie
 
 tested : (c : tie.After-enum-told) → sound (c .before .before .before .before .before .args .breaker) (c .before .before .before .before .before .args .list .now) ≡ true
-tested c = tested-sound (c .before .before .before .before .before .args .breaker) (c .before .before .before .before .before .args .list .now) (sym (c .enum-told .given .1) ∙ c .before .before .test .ensures)
+tested c =
+    let start = c .before .before .before .before .before in
+    tested-sound (start .args .breaker) (start .args .list .now) (sym (c .enum-told .given .1) ∙ c .before .before .test .ensures)
 
 test-requires : tie.Need-test-requires
 test-requires c κs = search needs
@@ -55,39 +57,55 @@ same-length : tie.Need-same-length
 same-length c = search needs
 
 returns : tie.Need-returns
-returns c = sound-refused (Calls.acquireCost (c .before .before .before .before .before .before .args .inner) (c .before .before .before .before .before .before .args .now-ms)) (c .before .before .before .before .before .before .args .breaker) (c .before .before .before .before .before .before .args .list .now) (c .before .r .given .0 .0) (sym (c .before .r .given .1) ∙ c .before .before .before .test .ensures)
+returns c =
+    let start = c .before .before .before .before .before .before in
+    sound-refused (Calls.acquireCost (start .args .inner) (start .args .now-ms)) (start .args .breaker) (start .args .list .now) (c .before .r .given .0 .0) (sym (c .before .r .given .1) ∙ c .before .before .before .test .ensures)
 
 same-length-2 : tie.Need-same-length-2
 same-length-2 c = search needs
 
 returns-2 : tie.Need-returns-2
 returns-2 c =
-    handed-shed (c .before .before .before .before .before .before .before .before .before .args .now-ms) (c .before .before .before .before .before .before .before .before .before .args .breaker) (c .before .before .before .before .before .before .before .before .before .args .list .now) (tested (c .before .before .before .before)) (λ a. Calls.acquireInner (c .before .before .before .before .before .before .before .before .before .args .inner) a (state (c .before .before .before .before .before .before .before .before .before .args .breaker) (c .before .before .before .before .before .before .before .before .before .args .list .now))) (tell 0 (decisionValues (Retry (c .before .d .given .0 .0)))) (λ ms. tell 0 (decisionValues (Calls.retry ms))) (λ ms. refl) (c .before .d .given .0 .0) (sym (c .before .d .given .1) ∙ c .before .before .before .admit-as-locked .ensures (c .before .before .before .before .before .before .before .before .before .args .breaker .config) (state (c .before .before .before .before .before .before .before .before .before .args .breaker) (c .before .before .before .before .before .before .before .before .before .args .list .now)) (holds (c .before .before .before .before .before .before .before .before .before .args .breaker) (c .before .before .before .before .before .before .before .before .before .args .list .now) (tested (c .before .before .before .before)) .0)) (λ ms r. ap (λ (x : Delay). tell 0 (decisionValues (Retry x))) r)
-    ∙ sound-done (Calls.acquireCost (c .before .before .before .before .before .before .before .before .before .args .inner) (c .before .before .before .before .before .before .before .before .before .args .now-ms)) (c .before .before .before .before .before .before .before .before .before .args .breaker) (c .before .before .before .before .before .before .before .before .before .args .list .now) (tested (c .before .before .before .before))
+    let place = c .before .before .before .before in
+    let start = place .before .before .before .before .before in
+    handed-shed (start .args .now-ms) (start .args .breaker) (start .args .list .now) (tested (place)) (λ a. Calls.acquireInner (start .args .inner) a (state (start .args .breaker) (start .args .list .now))) (tell 0 (decisionValues (Retry (c .before .d .given .0 .0)))) (λ ms. tell 0 (decisionValues (Calls.retry ms))) (λ ms. refl) (c .before .d .given .0 .0) (sym (c .before .d .given .1) ∙ c .before .before .before .admit-as-locked .ensures (start .args .breaker .config) (state (start .args .breaker) (start .args .list .now)) (holds (start .args .breaker) (start .args .list .now) (tested (place)) .0)) (λ ms r. ap (λ (x : Delay). tell 0 (decisionValues (Retry x))) r)
+    ∙ sound-done (Calls.acquireCost (start .args .inner) (start .args .now-ms)) (start .args .breaker) (start .args .list .now) (tested (place))
 
 same-length-3 : tie.Need-same-length-3
 same-length-3 c = search needs
 
 returns-3 : tie.Need-returns-3
-returns-3 c = handed-on (c .before .before .before .before .before .before .before .before .before .before .before .args .now-ms) (c .before .before .before .before .before .before .before .before .before .before .before .args .breaker) (c .before .before .before .before .before .before .before .before .before .before .before .args .list .now) (tested (c .before .before .before .before .before .before)) (λ a. Calls.acquireInner (c .before .before .before .before .before .before .before .before .before .before .before .args .inner) a (state (c .before .before .before .before .before .before .before .before .before .before .before .args .breaker) (c .before .before .before .before .before .before .before .before .before .before .before .args .list .now))) (tell 0 (decisionValues (c .before .before .before .before .before .before .before .before .before .before .before .args .inner))) (c .before .before .before .t .given .0 .0) (c .before .before .before .t .given .0 .1 .0) (sym (c .before .before .before .t .given .1) ∙ c .before .before .before .before .before .admit-as-locked .ensures (c .before .before .before .before .before .before .before .before .before .before .before .args .breaker .config) (state (c .before .before .before .before .before .before .before .before .before .before .before .args .breaker) (c .before .before .before .before .before .before .before .before .before .before .before .args .list .now)) (holds (c .before .before .before .before .before .before .before .before .before .before .before .args .breaker) (c .before .before .before .before .before .before .before .before .before .before .before .args .list .now) (tested (c .before .before .before .before .before .before)) .0)) (λ st′. ap (λ (i : Decision). Calls.handedOn (isAcquired i) (tell 0 (decisionValues (c .before .before .before .before .before .before .before .before .before .before .before .args .inner))) (c .before .before .before .t .given .0 .0) st′) (c .enum-told2 .given .1)) ∙ sound-done (Calls.acquireCost (c .before .before .before .before .before .before .before .before .before .before .before .args .inner) (c .before .before .before .before .before .before .before .before .before .before .before .args .now-ms)) (c .before .before .before .before .before .before .before .before .before .before .before .args .breaker) (c .before .before .before .before .before .before .before .before .before .before .before .args .list .now) (tested (c .before .before .before .before .before .before))
+returns-3 c =
+    let at-admit-as-locked = c .before .before .before .before .before in
+    let place = at-admit-as-locked .before in
+    let start = place .before .before .before .before .before in
+    handed-on (start .args .now-ms) (start .args .breaker) (start .args .list .now) (tested (place)) (λ a. Calls.acquireInner (start .args .inner) a (state (start .args .breaker) (start .args .list .now))) (tell 0 (decisionValues (start .args .inner))) (c .before .before .before .t .given .0 .0) (c .before .before .before .t .given .0 .1 .0) (sym (c .before .before .before .t .given .1) ∙ at-admit-as-locked .admit-as-locked .ensures (start .args .breaker .config) (state (start .args .breaker) (start .args .list .now)) (holds (start .args .breaker) (start .args .list .now) (tested (place)) .0)) (λ st′. ap (λ (i : Decision). Calls.handedOn (isAcquired i) (tell 0 (decisionValues (start .args .inner))) (c .before .before .before .t .given .0 .0) st′) (c .enum-told2 .given .1)) ∙ sound-done (Calls.acquireCost (start .args .inner) (start .args .now-ms)) (start .args .breaker) (start .args .list .now) (tested (place))
 
 same-length-4 : tie.Need-same-length-4
 same-length-4 c = search needs
 
 returns-4 : tie.Need-returns-4
 returns-4 c =
-    handed-back (c .before .before .before .before .before .before .before .before .before .before .before .before .args .now-ms) (c .before .before .before .before .before .before .before .before .before .before .before .before .args .breaker) (c .before .before .before .before .before .before .before .before .before .before .before .before .args .list .now) (tested (c .before .before .before .before .before .before .before)) (λ a. Calls.acquireInner (c .before .before .before .before .before .before .before .before .before .before .before .before .args .inner) a (state (c .before .before .before .before .before .before .before .before .before .before .before .before .args .breaker) (c .before .before .before .before .before .before .before .before .before .before .before .before .args .list .now))) (tell 0 (decisionValues (c .before .before .before .before .before .before .before .before .before .before .before .before .args .inner))) (c .before .before .before .before .t .given .0 .0) (c .before .before .before .before .t .given .0 .1 .0) (sym (c .before .before .before .before .t .given .1) ∙ c .before .before .before .before .before .before .admit-as-locked .ensures (c .before .before .before .before .before .before .before .before .before .before .before .before .args .breaker .config) (state (c .before .before .before .before .before .before .before .before .before .before .before .before .args .breaker) (c .before .before .before .before .before .before .before .before .before .before .before .before .args .list .now)) (holds (c .before .before .before .before .before .before .before .before .before .before .before .before .args .breaker) (c .before .before .before .before .before .before .before .before .before .before .before .before .args .list .now) (tested (c .before .before .before .before .before .before .before)) .0)) (c .abort-locked .result) (λ st′ q. c .abort-locked .ensures (c .before .before .before .before .before .before .before .before .before .before .before .before .args .breaker .config) st′ q)
-    (λ st′. ap (λ (i : Decision). Calls.handedOn (isAcquired i) (tell 0 (decisionValues (c .before .before .before .before .before .before .before .before .before .before .before .before .args .inner))) (c .before .before .before .before .t .given .0 .0) st′) (c .before .enum-told3 .given .1))
-    ∙ sound-done (Calls.acquireCost (c .before .before .before .before .before .before .before .before .before .before .before .before .args .inner) (c .before .before .before .before .before .before .before .before .before .before .before .before .args .now-ms)) (c .before .before .before .before .before .before .before .before .before .before .before .before .args .breaker) (c .before .before .before .before .before .before .before .before .before .before .before .before .args .list .now) (tested (c .before .before .before .before .before .before .before))
+    let at-t = c .before .before .before .before in
+    let at-admit-as-locked = at-t .before .before in
+    let place = at-admit-as-locked .before in
+    let start = place .before .before .before .before .before in
+    handed-back (start .args .now-ms) (start .args .breaker) (start .args .list .now) (tested (place)) (λ a. Calls.acquireInner (start .args .inner) a (state (start .args .breaker) (start .args .list .now))) (tell 0 (decisionValues (start .args .inner))) (at-t .t .given .0 .0) (at-t .t .given .0 .1 .0) (sym (at-t .t .given .1) ∙ at-admit-as-locked .admit-as-locked .ensures (start .args .breaker .config) (state (start .args .breaker) (start .args .list .now)) (holds (start .args .breaker) (start .args .list .now) (tested (place)) .0)) (c .abort-locked .result) (λ st′ q. c .abort-locked .ensures (start .args .breaker .config) st′ q)
+    (λ st′. ap (λ (i : Decision). Calls.handedOn (isAcquired i) (tell 0 (decisionValues (start .args .inner))) (at-t .t .given .0 .0) st′) (c .before .enum-told3 .given .1))
+    ∙ sound-done (Calls.acquireCost (start .args .inner) (start .args .now-ms)) (start .args .breaker) (start .args .list .now) (tested (place))
 
 same-length-5 : tie.Need-same-length-5
 same-length-5 c = search needs
 
 returns-5 : tie.Need-returns-5
 returns-5 c =
-    handed-back (c .before .before .before .before .before .before .before .before .before .before .before .before .args .now-ms) (c .before .before .before .before .before .before .before .before .before .before .before .before .args .breaker) (c .before .before .before .before .before .before .before .before .before .before .before .before .args .list .now) (tested (c .before .before .before .before .before .before .before)) (λ a. Calls.acquireInner (c .before .before .before .before .before .before .before .before .before .before .before .before .args .inner) a (state (c .before .before .before .before .before .before .before .before .before .before .before .before .args .breaker) (c .before .before .before .before .before .before .before .before .before .before .before .before .args .list .now))) (tell 0 (decisionValues (c .before .before .before .before .before .before .before .before .before .before .before .before .args .inner))) (c .before .before .before .before .t .given .0 .0) (c .before .before .before .before .t .given .0 .1 .0) (sym (c .before .before .before .before .t .given .1) ∙ c .before .before .before .before .before .before .admit-as-locked .ensures (c .before .before .before .before .before .before .before .before .before .before .before .before .args .breaker .config) (state (c .before .before .before .before .before .before .before .before .before .before .before .before .args .breaker) (c .before .before .before .before .before .before .before .before .before .before .before .before .args .list .now)) (holds (c .before .before .before .before .before .before .before .before .before .before .before .before .args .breaker) (c .before .before .before .before .before .before .before .before .before .before .before .before .args .list .now) (tested (c .before .before .before .before .before .before .before)) .0)) (c .abort-locked2 .result) (λ st′ q. c .abort-locked2 .ensures (c .before .before .before .before .before .before .before .before .before .before .before .before .args .breaker .config) st′ q)
-    (λ st′. ap (λ (i : Decision). Calls.handedOn (isAcquired i) (tell 0 (decisionValues (c .before .before .before .before .before .before .before .before .before .before .before .before .args .inner))) (c .before .before .before .before .t .given .0 .0) st′) (c .before .enum-told4 .given .1))
-    ∙ sound-done (Calls.acquireCost (c .before .before .before .before .before .before .before .before .before .before .before .before .args .inner) (c .before .before .before .before .before .before .before .before .before .before .before .before .args .now-ms)) (c .before .before .before .before .before .before .before .before .before .before .before .before .args .breaker) (c .before .before .before .before .before .before .before .before .before .before .before .before .args .list .now) (tested (c .before .before .before .before .before .before .before))
+    let at-t = c .before .before .before .before in
+    let at-admit-as-locked = at-t .before .before in
+    let place = at-admit-as-locked .before in
+    let start = place .before .before .before .before .before in
+    handed-back (start .args .now-ms) (start .args .breaker) (start .args .list .now) (tested (place)) (λ a. Calls.acquireInner (start .args .inner) a (state (start .args .breaker) (start .args .list .now))) (tell 0 (decisionValues (start .args .inner))) (at-t .t .given .0 .0) (at-t .t .given .0 .1 .0) (sym (at-t .t .given .1) ∙ at-admit-as-locked .admit-as-locked .ensures (start .args .breaker .config) (state (start .args .breaker) (start .args .list .now)) (holds (start .args .breaker) (start .args .list .now) (tested (place)) .0)) (c .abort-locked2 .result) (λ st′ q. c .abort-locked2 .ensures (start .args .breaker .config) st′ q)
+    (λ st′. ap (λ (i : Decision). Calls.handedOn (isAcquired i) (tell 0 (decisionValues (start .args .inner))) (at-t .t .given .0 .0) st′) (c .before .enum-told4 .given .1))
+    ∙ sound-done (Calls.acquireCost (start .args .inner) (start .args .now-ms)) (start .args .breaker) (start .args .list .now) (tested (place))
 
 pub acquire-cost-spec : {M : Type 1} → statement M
 acquire-cost-spec =

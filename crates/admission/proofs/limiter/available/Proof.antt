@@ -14,7 +14,9 @@ use Rattle.admission.proofs.limiter.available.Statement.{statement}
 use Rattle.admission.proofs.limiter.available.Tie as tie
 
 tested : (c : tie.After-enum-told) → sound (c .before .before .before .before .args .breaker) (c .before .before .before .before .args .list .now) ≡ true
-tested c = tested-sound (c .before .before .before .before .args .breaker) (c .before .before .before .before .args .list .now) (sym (c .enum-told .given .1) ∙ c .before .before .test .ensures)
+tested c =
+    let start = c .before .before .before .before in
+    tested-sound (start .args .breaker) (start .args .list .now) (sym (c .enum-told .given .1) ∙ c .before .before .test .ensures)
 
 test-requires : tie.Need-test-requires
 test-requires c κs = search needs
@@ -44,19 +46,35 @@ enum-told-6 : tie.Need-enum-told-6
 enum-told-6 c = search needs
 
 returns : tie.Need-returns
-returns c = asked-refused (Calls.available (c .before .before .before .before .before .args .inner) (c .before .before .before .before .before .args .count) (c .before .before .before .before .before .args .now-ms)) (c .before .before .before .before .before .args .breaker) (c .before .before .before .before .before .args .list .now) (c .before .r .given .0 .0) (sym (c .before .r .given .1) ∙ c .before .before .before .test .ensures)
+returns c =
+    let start = c .before .before .before .before .before in
+    asked-refused (Calls.available (start .args .inner) (start .args .count) (start .args .now-ms)) (start .args .breaker) (start .args .list .now) (c .before .r .given .0 .0) (sym (c .before .r .given .1) ∙ c .before .before .before .test .ensures)
 
 returns-2 : tie.Need-returns-2
-returns-2 c = counted-shed (c .before .before .before .before .before .before .before .args .now-ms) (c .before .before .before .before .before .before .before .args .breaker) (c .before .before .before .before .before .before .before .args .list .now) (tested (c .before .before .before)) (c .before .before .before .before .before .before .before .args .inner) (c .before .before .before .before .before .before .before .args .count) (c .enum-told2 .given .0 .0) (sym (c .enum-told2 .given .1) ∙ c .before .before .admit-locked .ensures (c .before .before .before .before .before .before .before .args .breaker .config) (state (c .before .before .before .before .before .before .before .args .breaker) (c .before .before .before .before .before .before .before .args .list .now)) (holds (c .before .before .before .before .before .before .before .args .breaker) (c .before .before .before .before .before .before .before .args .list .now) (tested (c .before .before .before)) .0)) ∙ asked-done (Calls.available (c .before .before .before .before .before .before .before .args .inner) (c .before .before .before .before .before .before .before .args .count) (c .before .before .before .before .before .before .before .args .now-ms)) (c .before .before .before .before .before .before .before .args .breaker) (c .before .before .before .before .before .before .before .args .list .now) (tested (c .before .before .before))
+returns-2 c =
+    let start = c .before .before .before .before .before .before .before in
+    counted-shed (start .args .now-ms) (start .args .breaker) (start .args .list .now) (tested (c .before .before .before)) (start .args .inner) (start .args .count) (c .enum-told2 .given .0 .0) (sym (c .enum-told2 .given .1) ∙ c .before .before .admit-locked .ensures (start .args .breaker .config) (state (start .args .breaker) (start .args .list .now)) (holds (start .args .breaker) (start .args .list .now) (tested (c .before .before .before)) .0)) ∙ asked-done (Calls.available (start .args .inner) (start .args .count) (start .args .now-ms)) (start .args .breaker) (start .args .list .now) (tested (c .before .before .before))
 
 returns-3 : tie.Need-returns-3
-returns-3 c = counted-granted (c .before .before .before .before .before .before .before .before .before .args .now-ms) (c .before .before .before .before .before .before .before .before .before .args .breaker) (c .before .before .before .before .before .before .before .before .before .args .list .now) (tested (c .before .before .before .before .before)) (c .before .before .before .before .before .before .before .before .before .args .inner) (c .before .before .before .before .before .before .before .before .before .args .count) (c .before .before .before .before .before .before .before .before .before .args .count) (c .before .before .enum-told3 .given .0 .0) (c .before .before .enum-told3 .given .0 .1 .0) (sym (c .before .before .enum-told3 .given .1) ∙ c .before .before .before .before .admit-locked .ensures (c .before .before .before .before .before .before .before .before .before .args .breaker .config) (state (c .before .before .before .before .before .before .before .before .before .args .breaker) (c .before .before .before .before .before .before .before .before .before .args .list .now)) (holds (c .before .before .before .before .before .before .before .before .before .args .breaker) (c .before .before .before .before .before .before .before .before .before .args .list .now) (tested (c .before .before .before .before .before)) .0)) (ap (λ (i : Decision). if isAcquired i then (c .before .before .before .before .before .before .before .before .before .args .count) else 0) (c .enum-told4 .given .1)) ∙ asked-done (Calls.available (c .before .before .before .before .before .before .before .before .before .args .inner) (c .before .before .before .before .before .before .before .before .before .args .count) (c .before .before .before .before .before .before .before .before .before .args .now-ms)) (c .before .before .before .before .before .before .before .before .before .args .breaker) (c .before .before .before .before .before .before .before .before .before .args .list .now) (tested (c .before .before .before .before .before))
+returns-3 c =
+    let at-admit-locked = c .before .before .before .before in
+    let place = at-admit-locked .before in
+    let start = place .before .before .before .before in
+    counted-granted (start .args .now-ms) (start .args .breaker) (start .args .list .now) (tested (place)) (start .args .inner) (start .args .count) (start .args .count) (c .before .before .enum-told3 .given .0 .0) (c .before .before .enum-told3 .given .0 .1 .0) (sym (c .before .before .enum-told3 .given .1) ∙ at-admit-locked .admit-locked .ensures (start .args .breaker .config) (state (start .args .breaker) (start .args .list .now)) (holds (start .args .breaker) (start .args .list .now) (tested (place)) .0)) (ap (λ (i : Decision). if isAcquired i then (start .args .count) else 0) (c .enum-told4 .given .1)) ∙ asked-done (Calls.available (start .args .inner) (start .args .count) (start .args .now-ms)) (start .args .breaker) (start .args .list .now) (tested (place))
 
 returns-4 : tie.Need-returns-4
-returns-4 c = counted-granted (c .before .before .before .before .before .before .before .before .before .args .now-ms) (c .before .before .before .before .before .before .before .before .before .args .breaker) (c .before .before .before .before .before .before .before .before .before .args .list .now) (tested (c .before .before .before .before .before)) (c .before .before .before .before .before .before .before .before .before .args .inner) (c .before .before .before .before .before .before .before .before .before .args .count) 0 (c .before .before .enum-told3 .given .0 .0) (c .before .before .enum-told3 .given .0 .1 .0) (sym (c .before .before .enum-told3 .given .1) ∙ c .before .before .before .before .admit-locked .ensures (c .before .before .before .before .before .before .before .before .before .args .breaker .config) (state (c .before .before .before .before .before .before .before .before .before .args .breaker) (c .before .before .before .before .before .before .before .before .before .args .list .now)) (holds (c .before .before .before .before .before .before .before .before .before .args .breaker) (c .before .before .before .before .before .before .before .before .before .args .list .now) (tested (c .before .before .before .before .before)) .0)) (ap (λ (i : Decision). if isAcquired i then (c .before .before .before .before .before .before .before .before .before .args .count) else 0) (c .enum-told5 .given .1)) ∙ asked-done (Calls.available (c .before .before .before .before .before .before .before .before .before .args .inner) (c .before .before .before .before .before .before .before .before .before .args .count) (c .before .before .before .before .before .before .before .before .before .args .now-ms)) (c .before .before .before .before .before .before .before .before .before .args .breaker) (c .before .before .before .before .before .before .before .before .before .args .list .now) (tested (c .before .before .before .before .before))
+returns-4 c =
+    let at-admit-locked = c .before .before .before .before in
+    let place = at-admit-locked .before in
+    let start = place .before .before .before .before in
+    counted-granted (start .args .now-ms) (start .args .breaker) (start .args .list .now) (tested (place)) (start .args .inner) (start .args .count) 0 (c .before .before .enum-told3 .given .0 .0) (c .before .before .enum-told3 .given .0 .1 .0) (sym (c .before .before .enum-told3 .given .1) ∙ at-admit-locked .admit-locked .ensures (start .args .breaker .config) (state (start .args .breaker) (start .args .list .now)) (holds (start .args .breaker) (start .args .list .now) (tested (place)) .0)) (ap (λ (i : Decision). if isAcquired i then (start .args .count) else 0) (c .enum-told5 .given .1)) ∙ asked-done (Calls.available (start .args .inner) (start .args .count) (start .args .now-ms)) (start .args .breaker) (start .args .list .now) (tested (place))
 
 returns-5 : tie.Need-returns-5
-returns-5 c = counted-granted (c .before .before .before .before .before .before .before .before .before .args .now-ms) (c .before .before .before .before .before .before .before .before .before .args .breaker) (c .before .before .before .before .before .before .before .before .before .args .list .now) (tested (c .before .before .before .before .before)) (c .before .before .before .before .before .before .before .before .before .args .inner) (c .before .before .before .before .before .before .before .before .before .args .count) 0 (c .before .before .enum-told3 .given .0 .0) (c .before .before .enum-told3 .given .0 .1 .0) (sym (c .before .before .enum-told3 .given .1) ∙ c .before .before .before .before .admit-locked .ensures (c .before .before .before .before .before .before .before .before .before .args .breaker .config) (state (c .before .before .before .before .before .before .before .before .before .args .breaker) (c .before .before .before .before .before .before .before .before .before .args .list .now)) (holds (c .before .before .before .before .before .before .before .before .before .args .breaker) (c .before .before .before .before .before .before .before .before .before .args .list .now) (tested (c .before .before .before .before .before)) .0)) (ap (λ (i : Decision). if isAcquired i then (c .before .before .before .before .before .before .before .before .before .args .count) else 0) (c .enum-told6 .given .1)) ∙ asked-done (Calls.available (c .before .before .before .before .before .before .before .before .before .args .inner) (c .before .before .before .before .before .before .before .before .before .args .count) (c .before .before .before .before .before .before .before .before .before .args .now-ms)) (c .before .before .before .before .before .before .before .before .before .args .breaker) (c .before .before .before .before .before .before .before .before .before .args .list .now) (tested (c .before .before .before .before .before))
+returns-5 c =
+    let at-admit-locked = c .before .before .before .before in
+    let place = at-admit-locked .before in
+    let start = place .before .before .before .before in
+    counted-granted (start .args .now-ms) (start .args .breaker) (start .args .list .now) (tested (place)) (start .args .inner) (start .args .count) 0 (c .before .before .enum-told3 .given .0 .0) (c .before .before .enum-told3 .given .0 .1 .0) (sym (c .before .before .enum-told3 .given .1) ∙ at-admit-locked .admit-locked .ensures (start .args .breaker .config) (state (start .args .breaker) (start .args .list .now)) (holds (start .args .breaker) (start .args .list .now) (tested (place)) .0)) (ap (λ (i : Decision). if isAcquired i then (start .args .count) else 0) (c .enum-told6 .given .1)) ∙ asked-done (Calls.available (start .args .inner) (start .args .count) (start .args .now-ms)) (start .args .breaker) (start .args .list .now) (tested (place))
 
 pub available-spec : {M : Type 1} → statement M
 available-spec =

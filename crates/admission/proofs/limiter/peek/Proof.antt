@@ -11,7 +11,9 @@ use Rattle.admission.proofs.limiter.peek.Statement.{statement}
 use Rattle.admission.proofs.limiter.peek.Tie as tie
 
 tested : (c : tie.After-enum-told) → sound (c .before .before .before .before .args .breaker) (c .before .before .before .before .args .list .now) ≡ true
-tested c = tested-sound (c .before .before .before .before .args .breaker) (c .before .before .before .before .args .list .now) (sym (c .enum-told .given .1) ∙ c .before .before .test .ensures)
+tested c =
+    let start = c .before .before .before .before in
+    tested-sound (start .args .breaker) (start .args .list .now) (sym (c .enum-told .given .1) ∙ c .before .before .test .ensures)
 
 test-requires : tie.Need-test-requires
 test-requires c κs = search needs
@@ -32,13 +34,20 @@ enum-told-2 : tie.Need-enum-told-2
 enum-told-2 c = search needs
 
 returns : tie.Need-returns
-returns c = asked-refused (Calls.peek (c .before .before .before .before .before .args .inner) (c .before .before .before .before .before .args .now-ms)) (c .before .before .before .before .before .args .breaker) (c .before .before .before .before .before .args .list .now) (c .before .r .given .0 .0) (sym (c .before .r .given .1) ∙ c .before .before .before .test .ensures)
+returns c =
+    let start = c .before .before .before .before .before in
+    asked-refused (Calls.peek (start .args .inner) (start .args .now-ms)) (start .args .breaker) (start .args .list .now) (c .before .r .given .0 .0) (sym (c .before .r .given .1) ∙ c .before .before .before .test .ensures)
 
 returns-2 : tie.Need-returns-2
-returns-2 c = peeked-shed (c .before .before .before .before .before .before .before .before .args .now-ms) (c .before .before .before .before .before .before .before .before .args .breaker) (c .before .before .before .before .before .before .before .before .args .list .now) (tested (c .before .before .before .before)) (c .before .before .before .before .before .before .before .before .args .inner) (c .before .d .given .0 .0) (sym (c .before .d .given .1) ∙ c .before .before .before .admit-locked .ensures (c .before .before .before .before .before .before .before .before .args .breaker .config) (state (c .before .before .before .before .before .before .before .before .args .breaker) (c .before .before .before .before .before .before .before .before .args .list .now)) (holds (c .before .before .before .before .before .before .before .before .args .breaker) (c .before .before .before .before .before .before .before .before .args .list .now) (tested (c .before .before .before .before)) .0)) ∙ asked-done (Calls.peek (c .before .before .before .before .before .before .before .before .args .inner) (c .before .before .before .before .before .before .before .before .args .now-ms)) (c .before .before .before .before .before .before .before .before .args .breaker) (c .before .before .before .before .before .before .before .before .args .list .now) (tested (c .before .before .before .before))
+returns-2 c =
+    let place = c .before .before .before .before in
+    let start = place .before .before .before .before in
+    peeked-shed (start .args .now-ms) (start .args .breaker) (start .args .list .now) (tested (place)) (start .args .inner) (c .before .d .given .0 .0) (sym (c .before .d .given .1) ∙ c .before .before .before .admit-locked .ensures (start .args .breaker .config) (state (start .args .breaker) (start .args .list .now)) (holds (start .args .breaker) (start .args .list .now) (tested (place)) .0)) ∙ asked-done (Calls.peek (start .args .inner) (start .args .now-ms)) (start .args .breaker) (start .args .list .now) (tested (place))
 
 returns-3 : tie.Need-returns-3
-returns-3 c = peeked-granted (c .before .before .before .before .before .before .before .args .now-ms) (c .before .before .before .before .before .before .before .args .breaker) (c .before .before .before .before .before .before .before .args .list .now) (tested (c .before .before .before)) (c .before .before .before .before .before .before .before .args .inner) (c .enum-told2 .given .0 .0) (c .enum-told2 .given .0 .1 .0) (sym (c .enum-told2 .given .1) ∙ c .before .before .admit-locked .ensures (c .before .before .before .before .before .before .before .args .breaker .config) (state (c .before .before .before .before .before .before .before .args .breaker) (c .before .before .before .before .before .before .before .args .list .now)) (holds (c .before .before .before .before .before .before .before .args .breaker) (c .before .before .before .before .before .before .before .args .list .now) (tested (c .before .before .before)) .0)) ∙ asked-done (Calls.peek (c .before .before .before .before .before .before .before .args .inner) (c .before .before .before .before .before .before .before .args .now-ms)) (c .before .before .before .before .before .before .before .args .breaker) (c .before .before .before .before .before .before .before .args .list .now) (tested (c .before .before .before))
+returns-3 c =
+    let start = c .before .before .before .before .before .before .before in
+    peeked-granted (start .args .now-ms) (start .args .breaker) (start .args .list .now) (tested (c .before .before .before)) (start .args .inner) (c .enum-told2 .given .0 .0) (c .enum-told2 .given .0 .1 .0) (sym (c .enum-told2 .given .1) ∙ c .before .before .admit-locked .ensures (start .args .breaker .config) (state (start .args .breaker) (start .args .list .now)) (holds (start .args .breaker) (start .args .list .now) (tested (c .before .before .before)) .0)) ∙ asked-done (Calls.peek (start .args .inner) (start .args .now-ms)) (start .args .breaker) (start .args .list .now) (tested (c .before .before .before))
 
 pub peek-spec : {M : Type 1} → statement M
 peek-spec =

@@ -14,7 +14,9 @@ use Rattle.admission.proofs.limiter.refund.Statement.{statement}
 use Rattle.admission.proofs.limiter.refund.Tie as tie
 
 tested : (c : tie.After-enum-told) → sound (c .before .before .before .before .before .args .breaker) (c .before .before .before .before .before .args .list .now) ≡ true
-tested c = tested-sound (c .before .before .before .before .before .args .breaker) (c .before .before .before .before .before .args .list .now) (sym (c .enum-told .given .1) ∙ c .before .before .test .ensures)
+tested c =
+    let start = c .before .before .before .before .before in
+    tested-sound (start .args .breaker) (start .args .list .now) (sym (c .enum-told .given .1) ∙ c .before .before .test .ensures)
 
 test-requires : tie.Need-test-requires
 test-requires c κs = search needs
@@ -32,16 +34,19 @@ same-length : tie.Need-same-length
 same-length c = search needs
 
 returns : tie.Need-returns
-returns c = sound-refused (Calls.refund (c .before .before .before .before .before .before .args .cost)) (c .before .before .before .before .before .before .args .breaker) (c .before .before .before .before .before .before .args .list .now) (c .before .r .given .0 .0) (sym (c .before .r .given .1) ∙ c .before .before .before .test .ensures)
+returns c =
+    let start = c .before .before .before .before .before .before in
+    sound-refused (Calls.refund (start .args .cost)) (start .args .breaker) (start .args .list .now) (c .before .r .given .0 .0) (sym (c .before .r .given .1) ∙ c .before .before .before .test .ensures)
 
 same-length-2 : tie.Need-same-length-2
 same-length-2 c = search needs
 
 returns-2 : tie.Need-returns-2
 returns-2 c =
-    sound-fields (Calls.refund (c .before .before .before .before .before .before .args .cost)) (c .before .before .before .before .before .before .args .breaker) (c .before .before .before .before .before .before .args .list .now) (tested (c .before)) (tell 0 (c .before .before .before .before .before .before .args .cost ∷ [])) (Rules.released (state (c .before .before .before .before .before .before .args .breaker) (c .before .before .before .before .before .before .args .list .now))) (c .release-locked .result) refl
-    (c .release-locked .ensures (c .before .before .before .before .before .before .args .breaker .config) (state (c .before .before .before .before .before .before .args .breaker) (c .before .before .before .before .before .before .args .list .now)) (holds (c .before .before .before .before .before .before .args .breaker) (c .before .before .before .before .before .before .args .list .now) (tested (c .before)) .0))
-    (released-list (state (c .before .before .before .before .before .before .args .breaker) (c .before .before .before .before .before .before .args .list .now)))
+    let start = c .before .before .before .before .before .before in
+    sound-fields (Calls.refund (start .args .cost)) (start .args .breaker) (start .args .list .now) (tested (c .before)) (tell 0 (start .args .cost ∷ [])) (Rules.released (state (start .args .breaker) (start .args .list .now))) (c .release-locked .result) refl
+    (c .release-locked .ensures (start .args .breaker .config) (state (start .args .breaker) (start .args .list .now)) (holds (start .args .breaker) (start .args .list .now) (tested (c .before)) .0))
+    (released-list (state (start .args .breaker) (start .args .list .now)))
 
 pub refund-spec : {M : Type 1} → statement M
 refund-spec =

@@ -1,5 +1,5 @@
 -- `circuit::calls::abort_as` meets its contract: the step, once the breaker is tested. Assumes nothing.
-use mathlib.Core.Path.{_≡_, sym, ap, _∙_}
+use mathlib.Core.Path.{_≡_, sym, _∙_}
 use mathlib.Core.Bool.{true}
 use borrow.Author.Needs.{needs}
 use Rattle.error.specs.Told.{nothing}
@@ -7,11 +7,14 @@ use Rattle.breaker.specs.Record.{state, sound}
 use Rattle.breaker.specs.Calls as Calls
 use Rattle.breaker.proofs.Guard.{tested-sound, sound-refused, sound-done}
 use Rattle.steps.proofs.Holding.{holds}
+use Rattle.steps.proofs.Aborting.{given-back}
 use Rattle.circuit.proofs.calls.abort_as.Statement.{statement}
 use Rattle.circuit.proofs.calls.abort_as.Tie as tie
 
 tested : (c : tie.After-enum-told) → sound (c .before .before .before .before .before .args .breaker) (c .before .before .before .before .before .args .list .now) ≡ true
-tested c = tested-sound (c .before .before .before .before .before .args .breaker) (c .before .before .before .before .before .args .list .now) (sym (c .enum-told .given .1) ∙ c .before .before .test .ensures)
+tested c =
+    let start = c .before .before .before .before .before in
+    tested-sound (start .args .breaker) (start .args .list .now) (sym (c .enum-told .given .1) ∙ c .before .before .test .ensures)
 
 test-requires : tie.Need-test-requires
 test-requires c κs = search needs
@@ -29,16 +32,20 @@ same-length : tie.Need-same-length
 same-length c = search needs
 
 returns : tie.Need-returns
-returns c = sound-refused (Calls.abortAs (c .before .before .before .before .before .before .args .ticket) (c .before .before .before .before .before .before .args .via-trait)) (c .before .before .before .before .before .before .args .breaker) (c .before .before .before .before .before .before .args .list .now) (c .before .r .given .0 .0) (sym (c .before .r .given .1) ∙ c .before .before .before .test .ensures)
+returns c =
+    let start = c .before .before .before .before .before .before in
+    sound-refused (Calls.abortAs (start .args .ticket) (start .args .via-trait)) (start .args .breaker) (start .args .list .now) (c .before .r .given .0 .0) (sym (c .before .r .given .1) ∙ c .before .before .before .test .ensures)
 
 same-length-2 : tie.Need-same-length-2
 same-length-2 c = search needs
 
 returns-2 : tie.Need-returns-2
 returns-2 c =
-    ap (Calls.after nothing (c .abort-locked .result)) (holds (c .before .before .before .before .before .before .args .breaker) (c .before .before .before .before .before .before .args .list .now) (tested (c .before)) .1)
-    ∙ sym (c .abort-locked .ensures (c .before .before .before .before .before .before .args .breaker .config) (state (c .before .before .before .before .before .before .args .breaker) (c .before .before .before .before .before .before .args .list .now)) 0 (holds (c .before .before .before .before .before .before .args .breaker) (c .before .before .before .before .before .before .args .list .now) (tested (c .before)) .0))
-    ∙ sound-done (Calls.abortAs (c .before .before .before .before .before .before .args .ticket) (c .before .before .before .before .before .before .args .via-trait)) (c .before .before .before .before .before .before .args .breaker) (c .before .before .before .before .before .before .args .list .now) (tested (c .before))
+    let start = c .before .before .before .before .before .before in
+    let held = holds (start .args .breaker) (start .args .list .now) (tested (c .before)) in
+    given-back (nothing) (start .args .breaker .config) (start .args .ticket) (start .args .via-trait) (state (start .args .breaker) (start .args .list .now)) (c .abort-locked .result) (start .args .list .now)
+    (c .abort-locked .ensures (start .args .breaker .config) (state (start .args .breaker) (start .args .list .now)) (held .0)) (held .1)
+    ∙ sound-done (Calls.abortAs (start .args .ticket) (start .args .via-trait)) (start .args .breaker) (start .args .list .now) (tested (c .before))
 
 pub abort-as-spec : {M : Type 1} → statement M
 abort-as-spec =

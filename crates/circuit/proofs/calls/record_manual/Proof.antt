@@ -10,7 +10,9 @@ use Rattle.circuit.proofs.calls.record_manual.Statement.{statement}
 use Rattle.circuit.proofs.calls.record_manual.Tie as tie
 
 tested : (c : tie.After-enum-told) → sound (c .before .before .before .before .before .args .breaker) (c .before .before .before .before .before .args .list .now) ≡ true
-tested c = tested-sound (c .before .before .before .before .before .args .breaker) (c .before .before .before .before .before .args .list .now) (sym (c .enum-told .given .1) ∙ c .before .before .test .ensures)
+tested c =
+    let start = c .before .before .before .before .before in
+    tested-sound (start .args .breaker) (start .args .list .now) (sym (c .enum-told .given .1) ∙ c .before .before .test .ensures)
 
 test-requires : tie.Need-test-requires
 test-requires c κs = search needs
@@ -28,13 +30,18 @@ same-length : tie.Need-same-length
 same-length c = search needs
 
 returns : tie.Need-returns
-returns c = sound-refused (λ s st. Rules.manual s (c .before .before .before .before .before .before .args .now-ms) (c .before .before .before .before .before .before .args .success) st) (c .before .before .before .before .before .before .args .breaker) (c .before .before .before .before .before .before .args .list .now) (c .before .r .given .0 .0) (sym (c .before .r .given .1) ∙ c .before .before .before .test .ensures)
+returns c =
+    let start = c .before .before .before .before .before .before in
+    sound-refused (λ s st. Rules.manual s (start .args .now-ms) (start .args .success) st) (start .args .breaker) (start .args .list .now) (c .before .r .given .0 .0) (sym (c .before .r .given .1) ∙ c .before .before .before .test .ensures)
 
 same-length-2 : tie.Need-same-length-2
 same-length-2 c = search needs
 
 returns-2 : tie.Need-returns-2
-returns-2 c = c .before .before .manual-locked .ensures (tested (c .before .before .before .before)) (c .before .before .before .before .before .before .before .before .before .args .breaker .config) (state (c .before .before .before .before .before .before .before .before .before .args .breaker) (c .before .before .before .before .before .before .before .before .before .args .list .now)) (holds (c .before .before .before .before .before .before .before .before .before .args .breaker) (c .before .before .before .before .before .before .before .before .before .args .list .now) (tested (c .before .before .before .before))) ∙ sound-done (λ s st. Rules.manual s (c .before .before .before .before .before .before .before .before .before .args .now-ms) (c .before .before .before .before .before .before .before .before .before .args .success) st) (c .before .before .before .before .before .before .before .before .before .args .breaker) (c .before .before .before .before .before .before .before .before .before .args .list .now) (tested (c .before .before .before .before))
+returns-2 c =
+    let place = c .before .before .before .before in
+    let start = place .before .before .before .before .before in
+    c .before .before .manual-locked .ensures (tested (place)) (start .args .breaker .config) (state (start .args .breaker) (start .args .list .now)) (holds (start .args .breaker) (start .args .list .now) (tested (place))) ∙ sound-done (λ s st. Rules.manual s (start .args .now-ms) (start .args .success) st) (start .args .breaker) (start .args .list .now) (tested (place))
 
 pub record-manual-spec : {M : Type 1} → statement M
 record-manual-spec =

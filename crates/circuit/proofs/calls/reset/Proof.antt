@@ -4,14 +4,16 @@ use mathlib.Core.Bool.{true}
 use borrow.Author.Needs.{needs}
 use Rattle.breaker.specs.Record.{state, sound}
 use Rattle.breaker.specs.Rules as Rules
-use Rattle.steps.proofs.Finishing.{kept-done}
+use Rattle.steps.proofs.Settling.{kept-done}
 use Rattle.breaker.proofs.Guard.{tested-sound, sound-refused, sound-done}
 use Rattle.steps.proofs.Holding.{holds}
 use Rattle.circuit.proofs.calls.reset.Statement.{statement}
 use Rattle.circuit.proofs.calls.reset.Tie as tie
 
 tested : (c : tie.After-enum-told) → sound (c .before .before .before .before .before .args .breaker) (c .before .before .before .before .before .args .list .now) ≡ true
-tested c = tested-sound (c .before .before .before .before .before .args .breaker) (c .before .before .before .before .before .args .list .now) (sym (c .enum-told .given .1) ∙ c .before .before .test .ensures)
+tested c =
+    let start = c .before .before .before .before .before in
+    tested-sound (start .args .breaker) (start .args .list .now) (sym (c .enum-told .given .1) ∙ c .before .before .test .ensures)
 
 test-requires : tie.Need-test-requires
 test-requires c κs = search needs
@@ -29,15 +31,19 @@ same-length : tie.Need-same-length
 same-length c = search needs
 
 returns : tie.Need-returns
-returns c = sound-refused (λ s st. Rules.reset st) (c .before .before .before .before .before .before .args .breaker) (c .before .before .before .before .before .before .args .list .now) (c .before .r .given .0 .0) (sym (c .before .r .given .1) ∙ c .before .before .before .test .ensures)
+returns c =
+    let start = c .before .before .before .before .before .before in
+    sound-refused (λ s st. Rules.reset st) (start .args .breaker) (start .args .list .now) (c .before .r .given .0 .0) (sym (c .before .r .given .1) ∙ c .before .before .before .test .ensures)
 
 same-length-2 : tie.Need-same-length-2
 same-length-2 c = search needs
 
 returns-2 : tie.Need-returns-2
 returns-2 c =
-    kept-done (c .before .before .before .before .before .before .before .before .before .args .breaker .config) (Rules.closing (state (c .before .before .before .before .before .before .before .before .before .args .breaker) (c .before .before .before .before .before .before .before .before .before .args .list .now))) (c .before .before .close .result) (c .before .before .close .last .1 .0) (c .before .before .close .ensures (tested (c .before .before .before .before)) (c .before .before .before .before .before .before .before .before .before .args .breaker .config) (state (c .before .before .before .before .before .before .before .before .before .args .breaker) (c .before .before .before .before .before .before .before .before .before .args .list .now)) (holds (c .before .before .before .before .before .before .before .before .before .args .breaker) (c .before .before .before .before .before .before .before .before .before .args .list .now) (tested (c .before .before .before .before)) .0))
-    ∙ sound-done (λ s st. Rules.reset st) (c .before .before .before .before .before .before .before .before .before .args .breaker) (c .before .before .before .before .before .before .before .before .before .args .list .now) (tested (c .before .before .before .before))
+    let place = c .before .before .before .before in
+    let start = place .before .before .before .before .before in
+    kept-done (start .args .breaker .config) (Rules.closing (state (start .args .breaker) (start .args .list .now))) (c .before .before .close .result) (c .before .before .close .last .1 .0) (c .before .before .close .ensures (tested (place)) (start .args .breaker .config) (state (start .args .breaker) (start .args .list .now)) (holds (start .args .breaker) (start .args .list .now) (tested (place)) .0))
+    ∙ sound-done (λ s st. Rules.reset st) (start .args .breaker) (start .args .list .now) (tested (place))
 
 pub reset-spec : {M : Type 1} → statement M
 reset-spec =

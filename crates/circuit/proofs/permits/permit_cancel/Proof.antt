@@ -1,19 +1,21 @@
 -- `circuit::permits::permit_cancel` meets its contract: an abort and a notice, once the breaker is tested. Assumes nothing.
-use mathlib.Core.Path.{_≡_, sym, ap, _∙_}
-use mathlib.Core.Bool.{true}
+use mathlib.Core.Path.{_≡_, sym, _∙_}
+use mathlib.Core.Bool.{true, false}
 use borrow.Author.Needs.{needs}
 use Rattle.breaker.specs.Record.{state, sound}
 use Rattle.breaker.specs.Calls as Calls
-use mathlib.Core.List.{[], _∷_}
-use Rattle.error.specs.Told.{tell}
-use Rattle.breaker.specs.Calls.{After}
+use Rattle.breaker.specs.declared.Notice.the-variants.{Refund}
+use Rattle.breaker.specs.Answers.{noticeTold}
 use Rattle.breaker.proofs.Guard.{tested-sound, sound-refused, sound-done}
 use Rattle.steps.proofs.Holding.{holds}
+use Rattle.steps.proofs.Aborting.{given-back}
 use Rattle.circuit.proofs.permits.permit_cancel.Statement.{statement}
 use Rattle.circuit.proofs.permits.permit_cancel.Tie as tie
 
 tested : (c : tie.After-enum-told) → sound (c .before .before .before .before .before .args .breaker) (c .before .before .before .before .before .args .list .now) ≡ true
-tested c = tested-sound (c .before .before .before .before .before .args .breaker) (c .before .before .before .before .before .args .list .now) (sym (c .enum-told .given .1) ∙ c .before .before .test .ensures)
+tested c =
+    let start = c .before .before .before .before .before in
+    tested-sound (start .args .breaker) (start .args .list .now) (sym (c .enum-told .given .1) ∙ c .before .before .test .ensures)
 
 test-requires : tie.Need-test-requires
 test-requires c κs = search needs
@@ -31,16 +33,20 @@ same-length : tie.Need-same-length
 same-length c = search needs
 
 returns : tie.Need-returns
-returns c = sound-refused (Calls.cancel (c .before .before .before .before .before .before .args .ticket)) (c .before .before .before .before .before .before .args .breaker) (c .before .before .before .before .before .before .args .list .now) (c .before .r .given .0 .0) (sym (c .before .r .given .1) ∙ c .before .before .before .test .ensures)
+returns c =
+    let start = c .before .before .before .before .before .before in
+    sound-refused (Calls.cancel (start .args .ticket)) (start .args .breaker) (start .args .list .now) (c .before .r .given .0 .0) (sym (c .before .r .given .1) ∙ c .before .before .before .test .ensures)
 
 same-length-2 : tie.Need-same-length-2
 same-length-2 c = search needs
 
 returns-2 : tie.Need-returns-2
 returns-2 c =
-    ap (Calls.after (tell 0 (1 ∷ [])) (c .abort-locked .result)) (holds (c .before .before .before .before .before .before .args .breaker) (c .before .before .before .before .before .before .args .list .now) (tested (c .before)) .1)
-    ∙ ap (λ (a : After). Calls.after (tell 0 (1 ∷ [])) (a .breaker) (a .places)) (sym (c .abort-locked .ensures (c .before .before .before .before .before .before .args .breaker .config) (state (c .before .before .before .before .before .before .args .breaker) (c .before .before .before .before .before .before .args .list .now)) 0 (holds (c .before .before .before .before .before .before .args .breaker) (c .before .before .before .before .before .before .args .list .now) (tested (c .before)) .0)))
-    ∙ sound-done (Calls.cancel (c .before .before .before .before .before .before .args .ticket)) (c .before .before .before .before .before .before .args .breaker) (c .before .before .before .before .before .before .args .list .now) (tested (c .before))
+    let start = c .before .before .before .before .before .before in
+    let held = holds (start .args .breaker) (start .args .list .now) (tested (c .before)) in
+    given-back (noticeTold (Refund 1)) (start .args .breaker .config) (start .args .ticket) false (state (start .args .breaker) (start .args .list .now)) (c .abort-locked .result) (start .args .list .now)
+    (c .abort-locked .ensures (start .args .breaker .config) (state (start .args .breaker) (start .args .list .now)) (held .0)) (held .1)
+    ∙ sound-done (Calls.cancel (start .args .ticket)) (start .args .breaker) (start .args .list .now) (tested (c .before))
 
 pub permit-cancel-spec : {M : Type 1} → statement M
 permit-cancel-spec =

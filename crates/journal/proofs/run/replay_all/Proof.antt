@@ -21,17 +21,20 @@ enum-told : tie.Need-enum-told
 enum-told c = search needs
 
 write-malformed-requires : tie.Need-write-malformed-requires
-write-malformed-requires c κs = omega (arith, c .before .before .before .before .before .before .before .pre .0)
+write-malformed-requires c κs =
+    omega (arith, c .before .before .before .before .before .before .before .pre .0)
 
 same-length : tie.Need-same-length
 same-length c = search needs
 
 returns : tie.Need-returns
 returns c =
-    let a = c .before .before .before .before .before .before .before .before .before .before .args in
+    let p = c .before .before .before .before .before .before in
+    let start = p .before .before .before .before in
+    let a = start .args in
     let w = c .before .before .write-malformed in
-    let no = rw (c .before .before .before .before .enum-told .given .1) at (c .before .before .before .before .before .before .read-header .ensures) in
-    answers-headless (a .more) (a .s .now) (a .list .now) (a .out .now) (w .last .0) (w .result) (omega (arith, w .ensures .1 .1, c .before .before .before .before .before .before .before .before .before .before .pre .0)) (w .kept .0) no (w .ensures .0) (w .ensures .1 .0)
+    let no = rw (c .before .before .before .before .enum-told .given .1) at (p .read-header .ensures) in
+    answers-headless (a .more) (a .s .now) (a .list .now) (a .out .now) (w .last .0) (w .result) (omega (arith, w .ensures .1 .1, start .pre .0)) (w .kept .0) no (w .ensures .0) (w .ensures .1 .0)
 
 blank-requires : tie.Need-blank-requires
 blank-requires c κs = search needs
@@ -55,23 +58,30 @@ slice-aggregate-write-line : tie.Need-slice-aggregate-write-line
 slice-aggregate-write-line c = search needs
 
 write-line-requires : tie.Need-write-line-requires
-write-line-requires c κs = omega (arith, c .before .before .before .before .before .before .before .before .before .before .before .before .before .before .before .before .before .before .before .before .pre .0)
+write-line-requires c κs =
+    omega (arith, c .before .before .before .before .before .before .before .before .before .before .before .before .before .before .before .before .before .before .before .before .pre .0)
 
 enum-told-2 : tie.Need-enum-told-2
 enum-told-2 c = search needs
 
 -- the header that was read, and the breaker that was made of it
-is : (c : tie.After-known-told) → HeaderFits (c .before .read .given .0 .0) × (c .before .before .before .before .before .before .before .args .s .now ≡ printHeader (c .before .read .given .0 .0) ++ drop (c .before .read .given .0 .1 .0) (c .before .before .before .before .before .before .before .args .s .now))
+is : (c : tie.After-known-told) →
+    let start = c .before .before .before .before .before .before .before in
+    HeaderFits (c .before .read .given .0 .0) × (start .args .s .now ≡ printHeader (c .before .read .given .0 .0) ++ drop (c .before .read .given .0 .1 .0) (start .args .s .now))
 is c = let f = rw (c .before .read .given .1) at (c .before .before .before .read-header .ensures) in (f .0, f .1)
 
-made : (c : tie.After-enum-told2) → IsMade (c .before .before .before .before .before .before .before .before .before .before .read .given .0 .0) (c .before .before .before .before .before .build .result .breaker) (c .before .before .before .before .before .build .last .1 .0)
+made : (c : tie.After-enum-told2) →
+    IsMade (c .before .before .before .before .before .before .before .before .before .before .read .given .0 .0) (c .before .before .before .before .before .build .result .breaker) (c .before .before .before .before .before .build .last .1 .0)
 made c =
+    let p = c .before .before .before .before .before .before in
+    let start = p .before .before .before .before .before .before .before .before .before .before in
     let b = c .before .before .before .before .before .build in
-    let o = c .before .before .before .before .before .before .builder-of in
-    build-made (c .before .before .before .before .before .before .before .before .before .before .read .given .0 .0) (o .result) (c .before .before .before .before .before .before .before .before .blank .result) (b .result .breaker) (c .before .before .before .before .before .before .before .before .before .before .before .before .before .before .before .before .args .list .now) (b .last .1 .0) (o .ensures) (c .before .before .before .before .before .before .before .before .before .before .before .before .before .before .before .before .pre .1) (rw (c .enum-told2 .given .1) at (b .ensures))
+    let o = p .builder-of in
+    build-made (p .before .before .before .before .read .given .0 .0) (o .result) (p .before .before .blank .result) (b .result .breaker) (start .args .list .now) (b .last .1 .0) (o .ensures) (start .pre .1) (rw (c .enum-told2 .given .1) at (b .ensures))
 
 replay-calls-requires : tie.Need-replay-calls-requires
-replay-calls-requires c κs = (c .before .before .before .before .before .before .before .before .before .before .before .before .before .before .before .before .before .before .pre .0, made (c .before .before) .4)
+replay-calls-requires c κs =
+    (c .before .before .before .before .before .before .before .before .before .before .before .before .before .before .before .before .before .before .pre .0, made (c .before .before) .4)
 
 same-length-2 : tie.Need-same-length-2
 same-length-2 c = search needs
@@ -81,13 +91,16 @@ same-length-3 c = search needs
 
 returns-2 : tie.Need-returns-2
 returns-2 c =
-    let a = c .before .before .before .before .before .before .before .before .before .before .before .before .before .before .before .before .before .before .before .before .before .before .before .args in
+    let p = c .before .before .before .before .before .before .before in
+    let q = p .before .before .before .before .before .before in
+    let start = q .before .before .before .before .before .before .before .before .before .before in
+    let a = start .args in
     let w = c .before .before .write-line in
-    let f = is (c .before .before .before .before .before .before .before .before .before .before .before .before .before .before .before .before) in
-    let r = c .before .before .before .before .before .before .before .answer .given .0 .0 in
-    let no = build-refused (c .before .before .before .before .before .before .before .before .before .before .before .before .before .before .before .before .before .read .given .0 .0) (c .before .before .before .before .before .before .before .before .before .before .before .before .before .builder-of .result) (c .before .before .before .before .before .before .before .before .before .before .before .before .before .before .before .blank .result) (c .before .before .before .before .before .before .before .before .before .before .before .before .build .result .breaker) (a .list .now) (c .before .before .before .before .before .before .before .before .before .before .before .before .build .last .1 .0) (c .before .before .before .before .before .before .before .before .before .before .before .before .before .builder-of .ensures) (c .before .before .before .before .before .before .before .before .before .before .before .before .before .before .before .before .before .before .before .before .before .before .before .pre .1) r (rw (c .before .before .before .before .before .before .before .answer .given .1) at (c .before .before .before .before .before .before .before .before .before .before .before .before .build .ensures)) in
+    let f = is (q .before .before .before) in
+    let r = p .answer .given .0 .0 in
+    let no = build-refused (q .before .before .before .before .read .given .0 .0) (q .builder-of .result) (q .before .before .blank .result) (p .before .before .before .before .before .build .result .breaker) (a .list .now) (p .before .before .before .before .before .build .last .1 .0) (q .builder-of .ensures) (start .pre .1) r (rw (p .answer .given .1) at (p .before .before .before .before .before .build .ensures)) in
     let v = rw (c .before .before .before .before .before .number .ensures) at (w .ensures) in
-    answers-refused (a .more) (a .s .now) (a .list .now) (a .out .now) (w .last .0) (w .result) (omega (arith, w .ensures .1 .1, c .before .before .before .before .before .before .before .before .before .before .before .before .before .before .before .before .before .before .before .before .before .before .before .pre .0)) (w .kept .0) (c .before .before .before .before .before .before .before .before .before .before .before .before .build .last .1 .0) (c .before .before .before .before .before .before .before .before .before .before .before .before .before .before .before .before .before .read .given .0 .0) _ r (f .0) (f .1) no (v .0) (v .1 .0)
+    answers-refused (a .more) (a .s .now) (a .list .now) (a .out .now) (w .last .0) (w .result) (omega (arith, w .ensures .1 .1, start .pre .0)) (w .kept .0) (p .before .before .before .before .before .build .last .1 .0) (q .before .before .before .before .read .given .0 .0) _ r (f .0) (f .1) no (v .0) (v .1 .0)
 
 same-length-4 : tie.Need-same-length-4
 same-length-4 c = search needs
@@ -97,10 +110,12 @@ same-length-5 c = search needs
 
 returns-3 : tie.Need-returns-3
 returns-3 c =
-    let a = c .before .before .before .before .before .before .before .before .before .before .before .before .before .before .before .before .before .before .before .before .before .before .before .args in
+    let p = c .before .before .before .before .before .before .before in
+    let q = p .before .before .before .before .before .before .before .before .before in
+    let a = q .before .before .before .before .before .before .before .args in
     let k = c .before .before .before .before .replay-calls in
-    let f = is (c .before .before .before .before .before .before .before .before .before .before .before .before .before .before .before .before) in
-    (answers-headed (a .more) (a .s .now) (a .list .now) _ (k .last .1 .1 .1 .1 .0) (c .before .before .before .before .before .before .before .before .before .before .before .before .before .before .before .before .before .read .given .0 .0) _ (c .before .before .before .before .before .before .before .before .before .before .before .before .build .result .breaker) (c .before .before .before .before .before .before .before .before .before .before .before .before .build .last .1 .0) (f .0) (f .1) (made (c .before .before .before .before .before .before .before)) (k .ensures .0), k .ensures .1)
+    let f = is q in
+    (answers-headed (a .more) (a .s .now) (a .list .now) _ (k .last .1 .1 .1 .1 .0) (q .before .read .given .0 .0) _ (p .before .before .before .before .before .build .result .breaker) (p .before .before .before .before .before .build .last .1 .0) (f .0) (f .1) (made p) (k .ensures .0), k .ensures .1)
 
 pub replay-all-spec : {M : Type 1} → statement M
 replay-all-spec =

@@ -1,14 +1,14 @@
 -- `journal::step::step` meets its contract: each call is its step's. Assumes nothing.
-use mathlib.Core.Path.{refl, sym, ap, _∙_}
+use mathlib.Core.Path.{refl, sym, _∙_}
 use mathlib.Core.Bool.{true, false}
 use borrow.Author.Needs.{needs}
 use Rattle.error.specs.Told.{nothing}
 use Rattle.breaker.specs.declared.Admission.the-variants as Admission·is
 use Rattle.breaker.specs.Record.{state}
 use Rattle.breaker.specs.Rules.{closing}
-use Rattle.breaker.specs.Calls.{after}
 use Rattle.steps.proofs.Holding.{holds}
-use Rattle.steps.proofs.Finishing.{kept-done}
+use Rattle.steps.proofs.Aborting.{given-back}
+use Rattle.steps.proofs.Settling.{kept-done}
 use Rattle.admission.proofs.Admitting.{admitted-shed, admitted-granted}
 use Rattle.breaker.specs.Answers.{admissionTold, finishedTold}
 use Rattle.lines.specs.declared.Call.the-variants.{Admit, Success, Failure, Abort, Reset}
@@ -115,7 +115,7 @@ returns-5 c =
     let s = c .before .before .before .before .before .before .args .list .now in
     let g = c .before .before .before .call4 .given in
     let r = c .abort-locked in
-    rw (g .1) (step-kept (Abort (g .0 .0) (g .0 .1 .0) (g .0 .1 .1 .0)) b s s (c .before .before .before .before .before .before .pre) nothing (r .result) _ (ap (after nothing (r .result)) (holds b s (c .before .before .before .before .before .before .pre) .1) ∙ sym (r .ensures (b .config) (state b s) 0 (holds b s (c .before .before .before .before .before .before .pre) .0))) refl (c .before .finish .ensures))
+    rw (g .1) (step-kept (Abort (g .0 .0) (g .0 .1 .0) (g .0 .1 .1 .0)) b s s (c .before .before .before .before .before .before .pre) nothing (r .result) _ (given-back nothing (b .config) (record { generation = g .0 .1 .0; probe = g .0 .1 .1 .0 }) false (state b s) (r .result) s (r .ensures (b .config) (state b s) (holds b s (c .before .before .before .before .before .before .pre) .0)) (holds b s (c .before .before .before .before .before .before .pre) .1)) refl (c .before .finish .ensures))
 
 same-length-3 : tie.Need-same-length-3
 same-length-3 c = search needs

@@ -32,7 +32,7 @@ write-line-requires : tie.Need-write-line-requires
 write-line-requires c κs =
     let a = c .before .before .before .before .before .before .before .before .args .answer in
     let h = c .before .before .before .before .before .before .before .before .args .breaker .shared in
-    omega (arith, c .before .before .before .before .before .before .before .before .pre .0, part-short (a .skipped) 7 (a .first ∷ a .second ∷ h .state ∷ h .generation ∷ h .inflight ∷ h .successes ∷ h .«open_until» ∷ []) refl)
+    omega (arith, c .before .before .before .before .before .before .before .before .pre .0, part-short (a .skipped) 7 (a .first ∷ a .second ∷ h .state ∷ h .generation ∷ h .counts .inflight ∷ h .counts .successes ∷ h .«open_until» ∷ []) refl)
 
 same-length : tie.Need-same-length
 same-length c = search needs
@@ -41,7 +41,7 @@ returns : tie.Need-returns
 returns c =
     let a = c .before .before .before .before .before .before .before .before .before .before .before .args .answer in
     let h = c .before .before .before .before .before .before .before .before .before .before .before .args .breaker .shared in
-    let vs = a .first ∷ a .second ∷ h .state ∷ h .generation ∷ h .inflight ∷ h .successes ∷ h .«open_until» ∷ [] in
+    let vs = a .first ∷ a .second ∷ h .state ∷ h .generation ∷ h .counts .inflight ∷ h .counts .successes ∷ h .«open_until» ∷ [] in
     let s = part-short (a .skipped) 7 vs refl in
     let l = c .before .before .write-line .ensures .1 .1 in
     let w = rw (part-all (a .skipped) 7 vs refl) at (c .before .before .write-line .ensures) in

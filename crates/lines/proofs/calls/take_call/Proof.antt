@@ -32,7 +32,8 @@ reading c = sym (c .before .before .before .read-decimal .ensures) ∙ ap (seen 
 
 returns-2 : tie.Need-returns-2
 unfolding takeCall takeLetter
-returns-2 c = (rw (reading (c .before), drop-of-length-le (c .before .before .before .before .before .before .args .s .now) (c .if1 .taken)), omega arith)
+returns-2 c =
+    (rw (reading (c .before), drop-of-length-le (c .before .before .before .before .before .before .args .s .now) (c .if1 .taken)), omega arith)
 
 shared-slice-read-if2 : tie.Need-shared-slice-read-if2
 shared-slice-read-if2 c = search needs
@@ -48,7 +49,8 @@ add-k c = search needs
 returns-4 : tie.Need-returns-4
 unfolding takeCall takeLetter takeKind
 returns-4 c =
-    (rw (reading (c .before .before .before .before), front (c .before .before .before .before .before .before .before .before .before .args .s .now) (c .before .before .before .before .before .number .given .0 .1 .0) (c .before .before .before .if1 .left), eq-eqb _ _ (c .before .if2 .left), drop-of-length-le (c .before .before .before .before .before .before .before .before .before .args .s .now) (c .if3 .taken)), omega arith)
+    let start = c .before .before .before .before .before .before .before .before .before in
+    (rw (reading (c .before .before .before .before), front (start .args .s .now) (c .before .before .before .before .before .number .given .0 .1 .0) (c .before .before .before .if1 .left), eq-eqb _ _ (c .before .if2 .left), drop-of-length-le (start .args .s .now) (c .if3 .taken)), omega arith)
 
 shared-slice-read-letter : tie.Need-shared-slice-read-letter
 shared-slice-read-letter c = search needs
@@ -71,11 +73,12 @@ enum-told-2 c = search needs
 returns-5 : tie.Need-returns-5
 unfolding takeCall takeLetter takeKind
 returns-5 c =
-    let s = c .before .before .before .before .before .before .before .before .before .before .before .before .before .before .before .args .s .now in
-    let n = c .before .before .before .before .before .before .before .before .before .before .before .number .given .0 .1 .0 in
+    let p = c .before .before .before .before .before .before in
+    let s = p .before .before .before .before .before .before .before .before .before .args .s .now in
+    let n = p .before .before .before .before .before .number .given .0 .1 .0 in
     let L = limitsOf (getD s (n + 1) 0) in
     let e : takeRest L (drop (n + 1 + 1) s) ≡ none = sym (c .before .before .before .read-values .ensures .0) ∙ ap (seenAll s (take (length L) (c .before .before .before .read-values .last .1 .1 .1 .0))) (c .enum-told2 .given .1) in
-    (rw (reading (c .before .before .before .before .before .before .before .before .before .before), front s n (c .before .before .before .before .before .before .before .before .before .if1 .left), eq-eqb _ _ (c .before .before .before .before .before .before .before .if2 .left), front s (n + 1) (c .before .before .before .before .before .before .if3 .left), e), omega arith)
+    (rw (reading (p .before .before .before .before), front s n (p .before .before .before .if1 .left), eq-eqb _ _ (p .before .if2 .left), front s (n + 1) (p .if3 .left), e), omega arith)
 
 array-read-call-of : tie.Need-array-read-call-of
 array-read-call-of c = search needs
@@ -89,13 +92,14 @@ call-of-requires c κs = search needs
 returns-6 : tie.Need-returns-6
 unfolding takeCall takeLetter takeKind
 returns-6 c =
-    let s = c .before .before .before .before .before .before .before .before .before .before .before .before .before .before .before .before .before .args .s .now in
-    let n = c .before .before .before .before .before .before .before .before .before .before .before .before .before .number .given .0 .1 .0 in
+    let p = c .before .before .before .before .before .before .before .before in
+    let s = p .before .before .before .before .before .before .before .before .before .args .s .now in
+    let n = p .before .before .before .before .before .number .given .0 .1 .0 in
     let k = getD s (n + 1) 0 in
     let v = c .before .before .before .before .before .read-values .last .1 .1 .1 .0 in
     let end = drop (c .before .before .place .given .0 .0) s in
     let e : takeRest (limitsOf k) (drop (n + 1 + 1) s) ≡ got (take (length (limitsOf k)) v) end = sym (c .before .before .before .before .before .read-values .ensures .0) ∙ ap (seenAll s (take (length (limitsOf k)) v)) (c .before .before .place .given .1) in
-    (rw (reading (c .before .before .before .before .before .before .before .before .before .before .before .before), front s n (c .before .before .before .before .before .before .before .before .before .before .before .if1 .left), eq-eqb _ _ (c .before .before .before .before .before .before .before .before .before .if2 .left), front s (n + 1) (c .before .before .before .before .before .before .before .before .if3 .left), e, made-call (c .before .before .before .before .before .before .before .before .before .before .before .before .before .number .given .0 .0) k v end) (c .call-of .ensures .0 s), omega (arith, rw (c .before .before .place .given .1) at (c .before .before .before .before .before .read-values .ensures .1)))
+    (rw (reading (p .before .before .before .before), front s n (p .before .before .before .if1 .left), eq-eqb _ _ (p .before .if2 .left), front s (n + 1) (p .if3 .left), e, made-call (p .before .before .before .before .before .number .given .0 .0) k v end) (c .call-of .ensures .0 s), omega (arith, rw (c .before .before .place .given .1) at (c .before .before .before .before .before .read-values .ensures .1)))
 
 pub take-call-spec : {M : Type 1} → statement M
 take-call-spec =

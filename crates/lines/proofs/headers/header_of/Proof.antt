@@ -57,14 +57,18 @@ element-copy-out-t37 c = search needs
 
 cast-t38 : tie.Need-cast-t38
 unfolding limitsOf
-cast-t38 c = omega (arith, limited _ (c .before .before .before .before .before .before .args .v .now) 82 4 (c .before .before .before .before .before .match .keys2) (c .before .before .before .before .before .before .pre) (omega arith) refl)
+cast-t38 c =
+    let start = c .before .before .before .before .before .before in
+    omega (arith, limited _ (start .args .v .now) 82 4 (c .before .before .before .before .before .match .keys2) (start .pre) (omega arith) refl)
 
 element-copy-out-t41 : tie.Need-element-copy-out-t41
 element-copy-out-t41 c = search needs
 
 cast-t42 : tie.Need-cast-t42
 unfolding limitsOf
-cast-t42 c = omega (arith, limited _ (c .before .before .before .before .before .before .before .args .v .now) 82 5 (c .before .before .before .before .before .before .match .keys2) (c .before .before .before .before .before .before .before .pre) (omega arith) refl)
+cast-t42 c =
+    let p = c .before .before .before .before .before .before in
+    omega (arith, limited _ (p .before .args .v .now) 82 5 (p .match .keys2) (p .before .pre) (omega arith) refl)
 
 element-copy-out-t46 : tie.Need-element-copy-out-t46
 element-copy-out-t46 c = search needs
@@ -91,13 +95,16 @@ element-copy-out-t60 c = search needs
 
 cast-t61 : tie.Need-cast-t61
 unfolding limitsOf
-cast-t61 c = omega (arith, limited _ (c .before .before .before .before .before .before .args .v .now) 87 4 (c .before .before .before .before .before .match .keys3) (c .before .before .before .before .before .before .pre) (omega arith) refl)
+cast-t61 c =
+    let start = c .before .before .before .before .before .before in
+    omega (arith, limited _ (start .args .v .now) 87 4 (c .before .before .before .before .before .match .keys3) (start .pre) (omega arith) refl)
 
 returns : tie.Need-returns
 returns c = (rw (c .before .before .before .before .match .keys1) (λ s. refl), omega arith)
 
 returns-2 : tie.Need-returns-2
-returns-2 c = (rw (c .before .before .before .before .before .before .match .keys2) (λ s. refl), omega arith)
+returns-2 c =
+    (rw (c .before .before .before .before .before .before .match .keys2) (λ s. refl), omega arith)
 
 returns-3 : tie.Need-returns-3
 returns-3 c = (rw (c .before .before .before .before .before .match .keys3) (λ s. refl), omega arith)

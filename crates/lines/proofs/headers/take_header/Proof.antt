@@ -36,17 +36,22 @@ enum-told c = search needs
 returns-2 : tie.Need-returns-2
 unfolding takeHeader
 returns-2 c =
-    let s = c .before .before .before .before .before .before .before .before .args .s .now in
-    let k = getD s (c .before .before .before .before .before .before .before .before .args .at) 0 in
-    let e : takeRest (limitsOf k) (drop (c .before .before .before .before .before .before .before .before .args .at + 1) s) ≡ none = sym (c .before .before .before .read-values .ensures .0) ∙ ap (seenAll s (take (length (limitsOf k)) (c .before .before .before .read-values .last .1 .1 .1 .0))) (c .enum-told .given .1) in
-    (rw (front s (c .before .before .before .before .before .before .before .before .args .at) (c .before .before .before .before .before .before .if1 .left), e), omega arith)
+    let p = c .before .before .before .before .before .before in
+    let start = p .before .before in
+    let s = start .args .s .now in
+    let k = getD s (start .args .at) 0 in
+    let e : takeRest (limitsOf k) (drop (start .args .at + 1) s) ≡ none = sym (c .before .before .before .read-values .ensures .0) ∙ ap (seenAll s (take (length (limitsOf k)) (c .before .before .before .read-values .last .1 .1 .1 .0))) (c .enum-told .given .1) in
+    (rw (front s (start .args .at) (p .if1 .left), e), omega arith)
 
 -- the values that were taken
-taken : (c : tie.After-known-told) → let s = c .before .before .before .before .before .before .before .before .before .args .s .now in let k = getD s (c .before .before .before .before .before .before .before .before .before .args .at) 0 in
-    takeRest (limitsOf k) (drop (c .before .before .before .before .before .before .before .before .before .args .at + 1) s) ≡ got (take (length (limitsOf k)) (c .before .before .before .before .read-values .last .1 .1 .1 .0)) (drop (c .before .place .given .0 .0) s)
+taken : (c : tie.After-known-told) →
+    let start = c .before .before .before .before .before .before .before .before .before in
+    let s = start .args .s .now in let k = getD s (start .args .at) 0 in
+    takeRest (limitsOf k) (drop (start .args .at + 1) s) ≡ got (take (length (limitsOf k)) (c .before .before .before .before .read-values .last .1 .1 .1 .0)) (drop (c .before .place .given .0 .0) s)
 taken c =
-    let s = c .before .before .before .before .before .before .before .before .before .args .s .now in
-    sym (c .before .before .before .before .read-values .ensures .0) ∙ ap (seenAll s (take (length (limitsOf (getD s (c .before .before .before .before .before .before .before .before .before .args .at) 0))) (c .before .before .before .before .read-values .last .1 .1 .1 .0))) (c .before .place .given .1)
+    let start = c .before .before .before .before .before .before .before .before .before in
+    let s = start .args .s .now in
+    sym (c .before .before .before .before .read-values .ensures .0) ∙ ap (seenAll s (take (length (limitsOf (getD s (start .args .at) 0))) (c .before .before .before .before .read-values .last .1 .1 .1 .0))) (c .before .place .given .1)
 
 header-of-requires : tie.Need-header-of-requires
 header-of-requires c κs = rest-back _ _ _ _ (taken (c .before)) .0
@@ -54,9 +59,11 @@ header-of-requires c κs = rest-back _ _ _ _ (taken (c .before)) .0
 returns-3 : tie.Need-returns-3
 unfolding takeHeader
 returns-3 c =
-    let s = c .before .before .before .before .before .before .before .before .before .before .before .args .s .now in
-    let k = getD s (c .before .before .before .before .before .before .before .before .before .before .before .args .at) 0 in
-    (rw (front s (c .before .before .before .before .before .before .before .before .before .before .before .args .at) (c .before .before .before .before .before .before .before .before .before .if1 .left), taken (c .before .before), made-header k (c .before .before .before .before .before .before .read-values .last .1 .1 .1 .0) (drop (c .before .before .before .place .given .0 .0) s)) (c .header-of .ensures .0 s), omega (arith, rw (c .before .before .before .place .given .1) at (c .before .before .before .before .before .before .read-values .ensures .1)))
+    let p = c .before .before .before .before .before .before in
+    let start = p .before .before .before .before .before in
+    let s = start .args .s .now in
+    let k = getD s (start .args .at) 0 in
+    (rw (front s (start .args .at) (p .before .before .before .if1 .left), taken (c .before .before), made-header k (p .read-values .last .1 .1 .1 .0) (drop (c .before .before .before .place .given .0 .0) s)) (c .header-of .ensures .0 s), omega (arith, rw (c .before .before .before .place .given .1) at (p .read-values .ensures .1)))
 
 pub take-header-spec : {M : Type 1} → statement M
 take-header-spec =

@@ -26,7 +26,9 @@ read-hex16-requires c κs = search needs
 
 returns-3 : tie.Need-returns-3
 unfolding takeField
-returns-3 c = rw (front (c .before .before .before .before .before .before .args .s .now) (c .before .before .before .before .before .before .args .at) (c .before .before .before .before .if1 .left), eq-eqb _ _ (c .before .before .if2 .left), eq-eqb _ _ (c .before .if3 .taken)) (c .read-hex16 .ensures)
+returns-3 c =
+    let start = c .before .before .before .before .before .before in
+    rw (front (start .args .s .now) (start .args .at) (c .before .before .before .before .if1 .left), eq-eqb _ _ (c .before .before .if2 .left), eq-eqb _ _ (c .before .if3 .taken)) (c .read-hex16 .ensures)
 
 add-read-decimal : tie.Need-add-read-decimal
 add-read-decimal c = search needs
@@ -36,7 +38,9 @@ read-decimal-requires c κs = search needs
 
 returns-4 : tie.Need-returns-4
 unfolding takeField
-returns-4 c = rw (front (c .before .before .before .before .before .before .args .s .now) (c .before .before .before .before .before .before .args .at) (c .before .before .before .before .if1 .left), eq-eqb _ _ (c .before .before .if2 .left), ne-eqb _ _ (c .before .if3 .left)) (c .read-decimal .ensures)
+returns-4 c =
+    let start = c .before .before .before .before .before .before in
+    rw (front (start .args .s .now) (start .args .at) (c .before .before .before .before .if1 .left), eq-eqb _ _ (c .before .before .if2 .left), ne-eqb _ _ (c .before .if3 .left)) (c .read-decimal .ensures)
 
 pub read-field-spec : {M : Type 1} → statement M
 read-field-spec =

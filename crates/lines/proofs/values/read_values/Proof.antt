@@ -44,23 +44,27 @@ same-length : tie.Need-same-length Inv-loop μ-loop
 same-length c = search needs
 
 -- the limit of the field that is read
-limit : (c : tie.In-loop Inv-loop μ-loop) → getD (c .before .before .before .limits-of .result .of) (c .before .loop .i) 0 ≡ getD (limitsOf (c .before .before .before .before .before .before .args .letter)) (c .before .loop .i) 0
+limit : (c : tie.In-loop Inv-loop μ-loop) →
+    getD (c .before .before .before .limits-of .result .of) (c .before .loop .i) 0 ≡ getD (limitsOf (c .before .before .before .before .before .before .args .letter)) (c .before .loop .i) 0
 limit c =
     let l = c .before .before .before .limits-of in
     sym (getD-take (l .result .count) (l .result .of) (c .before .loop .i) 0 (c .loop-test .taken)) ∙ ap (λ xs. getD xs (c .before .loop .i) 0) (l .ensures .2)
 
 returns : tie.Need-returns Inv-loop μ-loop
 returns c =
+    let p = c .before .before .before .before .before .before in
     let l = c .before .before .before .before .loop in
-    let a = c .before .before .before .before .before .before .before .before .before .args in
+    let a = p .before .before .before .args in
     let e : takeField (getD (limitsOf (a .letter)) (l .i) 0) (drop (l .next) (a .s .now)) ≡ none = rw (limit (c .before .before .before)) at (sym (c .before .before .read-field .ensures) ∙ ap (seen (a .s .now)) (c .enum-told .given .1)) in
-    (sym (rest-bad (limitsOf (a .letter)) (take (l .i) (l .out)) (drop (l .next) (a .s .now)) (l .i) (omega (arith, c .before .before .before .loop-test .taken, c .before .before .before .before .before .before .limits-of .ensures)) e) ∙ l .inv .2, omega arith)
+    (sym (rest-bad (limitsOf (a .letter)) (take (l .i) (l .out)) (drop (l .next) (a .s .now)) (l .i) (omega (arith, c .before .before .before .loop-test .taken, p .limits-of .ensures)) e) ∙ l .inv .2, omega arith)
 
 mul-out : tie.Need-mul-out Inv-loop μ-loop
 mul-out c = search needs
 
 slice-write-out : tie.Need-slice-write-out Inv-loop μ-loop
-slice-write-out c = omega (arith, c .before .before .before .before .before .loop .inv .1, c .before .before .before .before .loop-test .taken, c .before .before .before .before .before .before .before .limits-of .ensures, c .before .before .before .before .before .before .before .before .before .before .pre)
+slice-write-out c =
+    let p = c .before .before .before .before .before .before .before in
+    omega (arith, c .before .before .before .before .before .loop .inv .1, c .before .before .before .before .loop-test .taken, p .limits-of .ensures, p .before .before .before .pre)
 
 add-i : tie.Need-add-i Inv-loop μ-loop
 add-i c = search needs
@@ -70,12 +74,14 @@ loop-less c = omega arith
 
 loop-again : tie.Need-loop-again Inv-loop μ-loop
 loop-again c =
+    let p = c .before .before .before .before .before .before .before in
+    let start = p .before .before .before in
     let l = c .before .before .before .before .before .loop in
-    let a = c .before .before .before .before .before .before .before .before .before .before .args in
+    let a = start .args in
     let g = c .before .field .given in
-    let h : l .i < length (limitsOf (a .letter)) = omega (arith, c .before .before .before .before .loop-test .taken, c .before .before .before .before .before .before .before .limits-of .ensures) in
+    let h : l .i < length (limitsOf (a .letter)) = omega (arith, c .before .before .before .before .loop-test .taken, p .limits-of .ensures) in
     let e : takeField (getD (limitsOf (a .letter)) (l .i) 0) (drop (l .next) (a .s .now)) ≡ got (g .0 .0) (drop (g .0 .1 .0) (a .s .now)) = rw (limit (c .before .before .before .before)) at (sym (c .before .before .before .read-field .ensures) ∙ ap (seen (a .s .now)) (g .1)) in
-    (omega arith, simp length-set (l .inv .1), sym (rest-more (limitsOf (a .letter)) (l .out) (drop (l .next) (a .s .now)) (l .i) (g .0 .0) (drop (g .0 .1 .0) (a .s .now)) h (omega (arith, c .before .before .before .before .loop-test .taken, c .before .before .before .before .before .before .before .limits-of .ensures, l .inv .1, c .before .before .before .before .before .before .before .before .before .before .pre)) e) ∙ l .inv .2)
+    (omega arith, simp length-set (l .inv .1), sym (rest-more (limitsOf (a .letter)) (l .out) (drop (l .next) (a .s .now)) (l .i) (g .0 .0) (drop (g .0 .1 .0) (a .s .now)) h (omega (arith, c .before .before .before .before .loop-test .taken, p .limits-of .ensures, l .inv .1, start .pre)) e) ∙ l .inv .2)
 
 same-length-2 : tie.Need-same-length-2 Inv-loop μ-loop
 same-length-2 c = search needs
@@ -83,8 +89,9 @@ same-length-2 c = search needs
 returns-2 : tie.Need-returns-2 Inv-loop μ-loop
 unfolding takeRest
 returns-2 c =
-    let n : length (limitsOf (c .before .before .before .before .before .before .before .args .letter)) ≤ c .before .before .loop .i = omega (arith, c .before .loop-test .left, c .before .before .before .before .limits-of .ensures) in
-    (rw (drop-of-length-le (limitsOf (c .before .before .before .before .before .before .before .args .letter)) n, drop-of-length-le (c .before .before .before .before .before .before .before .args .s .now) (c .if1 .taken)) at (c .before .before .loop .inv .2), omega arith)
+    let start = c .before .before .before .before .before .before .before in
+    let n : length (limitsOf (start .args .letter)) ≤ c .before .before .loop .i = omega (arith, c .before .loop-test .left, c .before .before .before .before .limits-of .ensures) in
+    (rw (drop-of-length-le (limitsOf (start .args .letter)) n, drop-of-length-le (start .args .s .now) (c .if1 .taken)) at (c .before .before .loop .inv .2), omega arith)
 
 shared-slice-read-if2 : tie.Need-shared-slice-read-if2 Inv-loop μ-loop
 shared-slice-read-if2 c = search needs
@@ -95,8 +102,10 @@ same-length-3 c = search needs
 returns-3 : tie.Need-returns-3 Inv-loop μ-loop
 unfolding takeRest
 returns-3 c =
-    let n : length (limitsOf (c .before .before .before .before .before .before .before .before .before .args .letter)) ≤ c .before .before .before .before .loop .i = omega (arith, c .before .before .before .loop-test .left, c .before .before .before .before .before .before .limits-of .ensures) in
-    (rw (drop-of-length-le (limitsOf (c .before .before .before .before .before .before .before .before .before .args .letter)) n, front (c .before .before .before .before .before .before .before .before .before .args .s .now) (c .before .before .before .before .loop .next) (c .before .before .if1 .left), ne-eqb _ _ (c .if2 .taken)) at (c .before .before .before .before .loop .inv .2), omega arith)
+    let p = c .before .before .before .before .before .before in
+    let start = p .before .before .before in
+    let n : length (limitsOf (start .args .letter)) ≤ c .before .before .before .before .loop .i = omega (arith, c .before .before .before .loop-test .left, p .limits-of .ensures) in
+    (rw (drop-of-length-le (limitsOf (start .args .letter)) n, front (start .args .s .now) (c .before .before .before .before .loop .next) (c .before .before .if1 .left), ne-eqb _ _ (c .if2 .taken)) at (c .before .before .before .before .loop .inv .2), omega arith)
 
 add-t19 : tie.Need-add-t19 Inv-loop μ-loop
 add-t19 c = search needs
@@ -107,9 +116,11 @@ same-length-4 c = search needs
 returns-4 : tie.Need-returns-4 Inv-loop μ-loop
 unfolding takeRest
 returns-4 c =
-    let n : length (limitsOf (c .before .before .before .before .before .before .before .before .before .args .letter)) ≤ c .before .before .before .before .loop .i = omega (arith, c .before .before .before .loop-test .left, c .before .before .before .before .before .before .limits-of .ensures) in
-    let m : c .before .before .before .before .loop .i ≡ length (limitsOf (c .before .before .before .before .before .before .before .before .before .args .letter)) = omega (arith, c .before .before .before .before .loop .inv .0) in
-    (rw (drop-of-length-le (limitsOf (c .before .before .before .before .before .before .before .before .before .args .letter)) n, front (c .before .before .before .before .before .before .before .before .before .args .s .now) (c .before .before .before .before .loop .next) (c .before .before .if1 .left), eq-eqb _ _ (c .if2 .left), append-nil, m) at (c .before .before .before .before .loop .inv .2), omega arith)
+    let p = c .before .before .before .before .before .before in
+    let start = p .before .before .before in
+    let n : length (limitsOf (start .args .letter)) ≤ c .before .before .before .before .loop .i = omega (arith, c .before .before .before .loop-test .left, p .limits-of .ensures) in
+    let m : c .before .before .before .before .loop .i ≡ length (limitsOf (start .args .letter)) = omega (arith, c .before .before .before .before .loop .inv .0) in
+    (rw (drop-of-length-le (limitsOf (start .args .letter)) n, front (start .args .s .now) (c .before .before .before .before .loop .next) (c .before .before .if1 .left), eq-eqb _ _ (c .if2 .left), append-nil, m) at (c .before .before .before .before .loop .inv .2), omega arith)
 
 pub read-values-spec : {M : Type 1} → statement M
 read-values-spec =

@@ -1,0 +1,118 @@
+-- Nothing is lost where an answer is packed: what was told is read back from the three numbers. Assumes nothing.
+use Prim.Native.Nat.{ℕ}
+use mathlib.Core.Path.{_≡_, refl, sym, ap, _∙_}
+use mathlib.Core.List.{List, [], _∷_}
+use lib.Dec.{eqb}
+use Rattle.error.specs.Choice.{if_then_else_}
+use Rattle.error.specs.Told.{Told as Answer, tell, numberOf, refused}
+use Rattle.error.specs.declared.Refusal.{Refusal}
+use Rattle.error.specs.declared.Refusal.the-variants.{Time, Limit, Storage, Unsound, Full, Turn}
+use Rattle.breaker.specs.declared.Admission.{Admission}
+use Rattle.breaker.specs.declared.Admission.the-variants as Admission·is
+use Rattle.breaker.specs.declared.Finished.{Finished}
+use Rattle.breaker.specs.declared.Finished.the-variants as Finished·is
+use Rattle.breaker.specs.declared.Tried.{Tried}
+use Rattle.breaker.specs.declared.Tried.the-variants as Tried·is
+use Rattle.breaker.specs.declared.Standing.{Standing}
+use Rattle.breaker.specs.declared.Standing.the-variants as Standing·is
+use Rattle.breaker.specs.declared.Notice.{Notice}
+use Rattle.breaker.specs.declared.Notice.the-variants as Notice·is
+use Rattle.breaker.specs.declared.Decision.the-variants as Decision·is
+use Rattle.breaker.specs.declared.Decided.{Decided}
+use Rattle.breaker.specs.declared.Decided.the-variants as Decided·is
+use Rattle.breaker.specs.declared.Reservation.the-variants as Reservation·is
+use Rattle.breaker.specs.declared.Reserved.{Reserved}
+use Rattle.breaker.specs.declared.Reserved.the-variants as Reserved·is
+use Rattle.breaker.specs.declared.Counted.{Counted}
+use Rattle.breaker.specs.declared.Counted.the-variants as Counted·is
+use Rattle.breaker.specs.Answers.{admissionTold, finishedTold, triedTold, standingTold, noticeTold, decidedTold, reservedTold, countedTold}
+use Rattle.crossing.specs.declared.Told.{Told}
+use Rattle.crossing.specs.Crossing.{packed}
+
+-- how many values an answer has, by its number and its first value
+pub data Width : Type 0 where
+  none one both : Width
+
+abbrev values : Width → ℕ → ℕ → List ℕ
+values none v w = []
+values one v w = v ∷ []
+values both v w = v ∷ w ∷ []
+
+abbrev pub restored : (ℕ → ℕ → Width) → Told → Answer
+restored width t = tell (t .number) (values (width (t .number) (t .v1)) (t .v1) (t .v2))
+
+-- what is read back is known by the three numbers
+pub known-by : (width : ℕ → ℕ → Width) (s t : Answer) → restored width (packed s) ≡ s → restored width (packed t) ≡ t → packed s ≡ packed t → s ≡ t
+known-by width s t p q e = sym p ∙ ap (restored width) e ∙ q
+
+-- ---- the widths
+
+abbrev pub ticketWidth : ℕ → ℕ → Width
+ticketWidth n v =
+    if eqb n 0 then both
+    else if eqb n 6 then one
+    else if eqb n 8 then both
+    else none
+
+abbrev pub delayWidth : ℕ → ℕ → Width
+delayWidth n v = if eqb n 6 then one else none
+
+abbrev pub countWidth : ℕ → ℕ → Width
+countWidth n v = if eqb n 0 then one else none
+
+-- kind 2 has a delay for a decision, and kind 1 for a reservation
+abbrev pub kindWidth : ℕ → ℕ → ℕ → Width
+kindWidth delayed n v =
+    if eqb n 0 then (if eqb v delayed then both else one)
+    else none
+
+-- ---- the eight answers
+
+-- a reading of the number alone that is right for each refusal is right for all
+pub refused-back : (back : ℕ → Answer) (r : Refusal) → back 1 ≡ tell 1 [] → back 2 ≡ tell 2 [] → back 3 ≡ tell 3 [] → back 4 ≡ tell 4 [] → back 5 ≡ tell 5 [] → back 11 ≡ tell 11 [] → back (numberOf r) ≡ refused r
+refused-back back Time p1 p2 p3 p4 p5 p11 = p1
+refused-back back Limit p1 p2 p3 p4 p5 p11 = p2
+refused-back back Storage p1 p2 p3 p4 p5 p11 = p3
+refused-back back Unsound p1 p2 p3 p4 p5 p11 = p4
+refused-back back Full p1 p2 p3 p4 p5 p11 = p5
+refused-back back Turn p1 p2 p3 p4 p5 p11 = p11
+
+pub admission-back : (a : Admission) → restored ticketWidth (packed (admissionTold a)) ≡ admissionTold a
+admission-back (Admission·is.Granted t) = refl
+admission-back (Admission·is.Shed d) = refl
+admission-back (Admission·is.Refused r) = refused-back (λ n. restored ticketWidth (packed (tell n []))) r refl refl refl refl refl refl
+
+pub finished-back : (a : Finished) → restored delayWidth (packed (finishedTold a)) ≡ finishedTold a
+finished-back Finished·is.Done = refl
+finished-back (Finished·is.Refused r) = refused-back (λ n. restored delayWidth (packed (tell n []))) r refl refl refl refl refl refl
+
+pub tried-back : (a : Tried) → restored ticketWidth (packed (triedTold a)) ≡ triedTold a
+tried-back (Tried·is.Granted t) = refl
+tried-back (Tried·is.Shed d) = refl
+tried-back Tried·is.Retry = refl
+tried-back (Tried·is.Impossible cost capacity) = refl
+tried-back (Tried·is.Refused r) = refused-back (λ n. restored ticketWidth (packed (tell n []))) r refl refl refl refl refl refl
+
+pub standing-back : (a : Standing) → restored delayWidth (packed (standingTold a)) ≡ standingTold a
+standing-back Standing·is.Admits = refl
+standing-back (Standing·is.Shed d) = refl
+standing-back (Standing·is.Refused r) = refused-back (λ n. restored delayWidth (packed (tell n []))) r refl refl refl refl refl refl
+
+pub notice-back : (a : Notice) → restored countWidth (packed (noticeTold a)) ≡ noticeTold a
+notice-back (Notice·is.Refund cost) = refl
+notice-back (Notice·is.Refused r) = refused-back (λ n. restored countWidth (packed (tell n []))) r refl refl refl refl refl refl
+
+pub decided-back : (a : Decided) → restored (kindWidth 2) (packed (decidedTold a)) ≡ decidedTold a
+decided-back (Decided·is.Is Decision·is.Acquired) = refl
+decided-back (Decided·is.Is (Decision·is.Retry d)) = refl
+decided-back (Decided·is.Is Decision·is.Impossible) = refl
+decided-back (Decided·is.Refused r) = refused-back (λ n. restored (kindWidth 2) (packed (tell n []))) r refl refl refl refl refl refl
+
+pub reserved-back : (a : Reserved) → restored (kindWidth 1) (packed (reservedTold a)) ≡ reservedTold a
+reserved-back (Reserved·is.Is (Reservation·is.Wait d)) = refl
+reserved-back (Reserved·is.Is Reservation·is.Nothing) = refl
+reserved-back (Reserved·is.Refused r) = refused-back (λ n. restored (kindWidth 1) (packed (tell n []))) r refl refl refl refl refl refl
+
+pub counted-back : (a : Counted) → restored countWidth (packed (countedTold a)) ≡ countedTold a
+counted-back (Counted·is.Count n) = refl
+counted-back (Counted·is.Refused r) = refused-back (λ n. restored countWidth (packed (tell n []))) r refl refl refl refl refl refl

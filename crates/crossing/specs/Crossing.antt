@@ -1,0 +1,104 @@
+-- What crosses to C: an answer as plain numbers, and what the plain numbers that come in mean. Definitions only.
+use Prim.Native.Nat.{ℕ}
+use mathlib.Core.Bool.{Bool, not, _&&_}
+use mathlib.Core.List.{List}
+use lib.Dec.{leb, eqb}
+use lib.ListN.{length, getD}
+use Rattle.error.specs.Choice.{if_then_else_}
+use Rattle.error.specs.Told.{Told as Answer, refused}
+use Rattle.error.specs.declared.Refusal.the-variants.{Storage, Unsound, Turn}
+use Rattle.trip.specs.declared.Trip.{Trip}
+use Rattle.trip.specs.declared.Trip.the-variants.{Consecutive, Ratio, Windowed}
+use Rattle.trip.specs.declared.CircuitBreakerBuilder.{CircuitBreakerBuilder}
+use Rattle.breaker.specs.declared.Breaker.{Breaker}
+use Rattle.breaker.specs.declared.Decision.{Decision}
+use Rattle.breaker.specs.declared.Decision.the-variants.{Acquired, Retry, Impossible}
+use Rattle.breaker.specs.declared.Reservation.{Reservation}
+use Rattle.breaker.specs.declared.Reservation.the-variants.{Wait, Nothing}
+use Rattle.breaker.specs.Record.{Settings, State}
+use Rattle.breaker.specs.Answers.{delayOf}
+use Rattle.breaker.specs.Rules.{Outcome}
+use Rattle.breaker.specs.Calls.{After, after, guarded, onSound, asked, built}
+use Rattle.breaker.specs.Batch.{Batch}
+use Rattle.crossing.specs.declared.Told.{Told}
+use Rattle.crossing.specs.declared.Setting.{Setting}
+
+-- ---- what goes out
+
+-- the number, and the values in their order, 0 where there is none; a probe flag is a value of 0 or 1
+abbrev pub packed : Answer → Told
+packed t = record { number = t .number; v1 = getD (t .values) 0 0; v2 = getD (t .values) 1 0 }
+
+-- what a call leaves: what it told, the record, and every place
+pub record Crossing : Type 0 where
+  pub told : Told
+  pub breaker : Breaker
+  pub places : List ℕ
+
+abbrev pub crossing : Told → Breaker → List ℕ → Crossing
+crossing t b s = record { told = t; breaker = b; places = s }
+
+unfoldable pub crossed : After → Crossing
+crossed a = crossing (packed (a .told)) (a .breaker) (a .places)
+
+-- what a batch leaves: as any call, and the number told to each call of the sequence
+pub record Crossings : Type 0 where
+  pub left : Crossing
+  pub answers : List ℕ
+
+abbrev pub crossings : Crossing → List ℕ → Crossings
+crossings l a = record { left = l; answers = a }
+
+unfoldable pub crossedAll : Batch → Crossings
+crossedAll x = crossings (crossed (x .left)) (x .answers)
+
+-- ---- replies of the inner limiter that come in
+
+-- a reply or a policy has a kind of 1 to 3
+abbrev pub known : ℕ → Bool
+known kind = leb 1 kind && leb kind 3
+
+-- 1 acquired, 2 retry after so many milliseconds, 3 impossible
+abbrev pub decisionBy : ℕ → ℕ → Decision
+decisionBy kind ms =
+    if eqb kind 1 then Acquired
+    else if eqb kind 2 then Retry (delayOf ms)
+    else Impossible
+
+-- a reservation's kinds are those of its answer: 1 a wait of so many milliseconds, 0 none
+abbrev pub reservable : ℕ → Bool
+reservable kind = leb kind 1
+
+abbrev pub reservationBy : ℕ → ℕ → Reservation
+reservationBy kind ms = if eqb kind 1 then Wait (delayOf ms) else Nothing
+
+-- a call by a reply: "Tested in the order 3, 4, 11"; refused it leaves all as it was
+unfoldable pub onReply : Bool → (Settings → State → Outcome) → Breaker → List ℕ → After
+onReply ok rule b s = if ok then onSound rule b s else after (guarded refused (refused Turn) b s) b s
+
+unfoldable pub askedReply : Bool → (Settings → State → Answer) → Breaker → List ℕ → Answer
+askedReply ok rule b s = if ok then asked rule b s else guarded refused (refused Turn) b s
+
+-- ---- a setting that comes in
+
+-- the policy of a kind: 1 Consecutive, 2 Ratio, 3 Windowed; the numbers of another policy are not read
+abbrev pub tripBy : Setting → Trip
+tripBy x =
+    if eqb (x .kind) 1 then Consecutive (x .limit)
+    else if eqb (x .kind) 2 then Ratio (x .limit) (x .ratio) (x .«min_calls»)
+    else Windowed (x .limit) (record { secs = x .«period_secs»; nanos = x .«period_nanos» })
+
+abbrev pub builderBy : Setting → CircuitBreakerBuilder
+builderBy x =
+    record {
+      trip = tripBy x;
+      cooldown = record { secs = x .«cooldown_secs»; nanos = x .«cooldown_nanos» };
+      «half_open_trials» = x .trials;
+      «half_open_required» = x .required;
+    }
+
+-- making a breaker: 3, then 4 for an unknown kind, then what the builder refuses; refused it leaves all as it was
+unfoldable pub builtBy : Setting → Breaker → List ℕ → After
+builtBy x b s =
+    if known (x .kind) then built (builderBy x) b s
+    else after (if not (eqb (length s) 4096) then refused Storage else refused Unsound) b s

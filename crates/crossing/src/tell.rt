@@ -1,0 +1,198 @@
+// Each answer as plain numbers: document 01's number, and its values with zeros for those it has not.
+ghost use mathlib.Core.Path.{_≡_};
+ghost use Rattle.error.specs.Choice.{bit};
+ghost use Rattle.error.specs.Told.{refused};
+ghost use Rattle.breaker.specs.Answers.{admissionTold, finishedTold, triedTold, standingTold, noticeTold, decidedTold, reservedTold, countedTold};
+ghost use Rattle.crossing.specs.Crossing.{packed};
+use crate::Told;
+use breaker::Admission;
+use breaker::Counted;
+use breaker::Decided;
+use breaker::Decision;
+use breaker::Finished;
+use breaker::Notice;
+use breaker::Reservation;
+use breaker::Reserved;
+use breaker::Standing;
+use breaker::Tried;
+use error::Refusal;
+
+// A probe flag as a value.
+pub(crate) fn flag(probe: bool) -> u64
+    ensures { λ r. ⌜ r ≡ bit probe ⌝ }
+{
+    if probe {
+        return 1;
+    }
+    0
+}
+
+pub(crate) fn tell_refusal(refusal: Refusal) -> Told
+    ensures { λ r. ⌜ r ≡ packed (refused refusal) ⌝ }
+{
+    Told {
+        number: error::number(refusal),
+        v1: 0,
+        v2: 0,
+    }
+}
+
+pub(crate) fn tell_finished(answer: Finished) -> Told
+    ensures { λ r. ⌜ r ≡ packed (finishedTold answer) ⌝ }
+{
+    match answer {
+        Finished::Done => Told {
+            number: 0,
+            v1: 0,
+            v2: 0,
+        },
+        Finished::Refused(r) => tell_refusal(r),
+    }
+}
+
+pub(crate) fn tell_admission(answer: Admission) -> Told
+    ensures { λ r. ⌜ r ≡ packed (admissionTold answer) ⌝ }
+{
+    match answer {
+        Admission::Granted(t) => Told {
+            number: 0,
+            v1: t.generation,
+            v2: flag(t.probe),
+        },
+        Admission::Shed(d) => Told {
+            number: 6,
+            v1: d.ms,
+            v2: 0,
+        },
+        Admission::Refused(r) => tell_refusal(r),
+    }
+}
+
+pub(crate) fn tell_tried(answer: Tried) -> Told
+    ensures { λ r. ⌜ r ≡ packed (triedTold answer) ⌝ }
+{
+    match answer {
+        Tried::Granted(t) => Told {
+            number: 0,
+            v1: t.generation,
+            v2: flag(t.probe),
+        },
+        Tried::Shed(d) => Told {
+            number: 6,
+            v1: d.ms,
+            v2: 0,
+        },
+        Tried::Retry => Told {
+            number: 7,
+            v1: 0,
+            v2: 0,
+        },
+        Tried::Impossible { cost, capacity } => Told {
+            number: 8,
+            v1: cost as u64,
+            v2: capacity as u64,
+        },
+        Tried::Refused(r) => tell_refusal(r),
+    }
+}
+
+pub(crate) fn tell_standing(answer: Standing) -> Told
+    ensures { λ r. ⌜ r ≡ packed (standingTold answer) ⌝ }
+{
+    match answer {
+        Standing::Admits => Told {
+            number: 0,
+            v1: 0,
+            v2: 0,
+        },
+        Standing::Shed(d) => Told {
+            number: 6,
+            v1: d.ms,
+            v2: 0,
+        },
+        Standing::Refused(r) => tell_refusal(r),
+    }
+}
+
+pub(crate) fn tell_notice(answer: Notice) -> Told
+    ensures { λ r. ⌜ r ≡ packed (noticeTold answer) ⌝ }
+{
+    match answer {
+        Notice::Refund(cost) => Told {
+            number: 0,
+            v1: cost as u64,
+            v2: 0,
+        },
+        Notice::Refused(r) => tell_refusal(r),
+    }
+}
+
+fn tell_decision(d: Decision) -> Told
+    ensures { λ r. ⌜ r ≡ packed (decidedTold (Decided.Is d)) ⌝ }
+{
+    match d {
+        Decision::Acquired => Told {
+            number: 0,
+            v1: 1,
+            v2: 0,
+        },
+        Decision::Retry(delay) => Told {
+            number: 0,
+            v1: 2,
+            v2: delay.ms,
+        },
+        Decision::Impossible => Told {
+            number: 0,
+            v1: 3,
+            v2: 0,
+        },
+    }
+}
+
+pub(crate) fn tell_decided(answer: Decided) -> Told
+    ensures { λ r. ⌜ r ≡ packed (decidedTold answer) ⌝ }
+{
+    match answer {
+        Decided::Is(d) => tell_decision(d),
+        Decided::Refused(r) => tell_refusal(r),
+    }
+}
+
+fn tell_reservation(w: Reservation) -> Told
+    ensures { λ r. ⌜ r ≡ packed (reservedTold (Reserved.Is w)) ⌝ }
+{
+    match w {
+        Reservation::Wait(delay) => Told {
+            number: 0,
+            v1: 1,
+            v2: delay.ms,
+        },
+        Reservation::Nothing => Told {
+            number: 0,
+            v1: 0,
+            v2: 0,
+        },
+    }
+}
+
+pub(crate) fn tell_reserved(answer: Reserved) -> Told
+    ensures { λ r. ⌜ r ≡ packed (reservedTold answer) ⌝ }
+{
+    match answer {
+        Reserved::Is(w) => tell_reservation(w),
+        Reserved::Refused(r) => tell_refusal(r),
+    }
+}
+
+pub(crate) fn tell_counted(answer: Counted) -> Told
+    ensures { λ r. ⌜ r ≡ packed (countedTold answer) ⌝ }
+{
+    match answer {
+        Counted::Count(n) => Told {
+            number: 0,
+            v1: n,
+            v2: 0,
+        },
+        Counted::Refused(r) => tell_refusal(r),
+    }
+}

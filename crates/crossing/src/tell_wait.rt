@@ -1,0 +1,162 @@
+// Each answer of a wait as plain numbers, with the turns that a run took.
+ghost use mathlib.Core.Path.{_≡_};
+ghost use Rattle.error.specs.Told.{tell, refused};
+ghost use Rattle.wait.specs.Answers.{actValues, droppedTold};
+ghost use Rattle.waiting.specs.Answers.{begunTold, completedTold, awaitedTold, courseTold};
+ghost use Rattle.crossing.specs.Waits.{packedWait};
+use crate::Waited;
+use crate::tell::flag;
+use error::Refusal;
+use wait::Act;
+use wait::Dropped;
+use waiting::Awaited;
+use waiting::Begun;
+use waiting::Completed;
+use waiting::Course;
+
+fn tell_refused(refusal: Refusal, taken: u64) -> Waited
+    ensures { λ r. ⌜ r ≡ packedWait (refused refusal) taken ⌝ }
+{
+    Waited {
+        number: error::number(refusal),
+        v1: 0,
+        v2: 0,
+        v3: 0,
+        taken,
+    }
+}
+
+pub(crate) fn tell_begun(answer: Begun) -> Waited
+    ensures { λ r. ⌜ r ≡ packedWait (begunTold answer) 0 ⌝ }
+{
+    match answer {
+        Begun::Waits => Waited {
+            number: 0,
+            v1: 0,
+            v2: 0,
+            v3: 0,
+            taken: 0,
+        },
+        Begun::Shed(d) => Waited {
+            number: 6,
+            v1: d.ms,
+            v2: 0,
+            v3: 0,
+            taken: 0,
+        },
+        Begun::Refused(r) => tell_refused(r, 0),
+    }
+}
+
+// The end of a wait, after so many turns of a run.
+fn tell_completed(end: Completed, taken: u64) -> Waited
+    ensures { λ r. ⌜ r ≡ packedWait (completedTold end) taken ⌝ }
+{
+    match end {
+        Completed::Admitted(t) => Waited {
+            number: 0,
+            v1: 0,
+            v2: t.generation,
+            v3: flag(t.probe),
+            taken,
+        },
+        Completed::Shed(d, refund) => Waited {
+            number: 6,
+            v1: d.ms,
+            v2: refund,
+            v3: 0,
+            taken,
+        },
+        Completed::Impossible(cost, capacity) => Waited {
+            number: 8,
+            v1: cost,
+            v2: capacity,
+            v3: 0,
+            taken,
+        },
+        Completed::Deadline(back) => Waited {
+            number: 9,
+            v1: back,
+            v2: 0,
+            v3: 0,
+            taken,
+        },
+    }
+}
+
+// What the host is to do: 1 to 4, and for how long, and past which epoch.
+fn tell_act(act: Act) -> Waited
+    ensures { λ r. ⌜ r ≡ packedWait (tell 0 (actValues act)) 0 ⌝ }
+{
+    match act {
+        Act::Sleep(nanos) => Waited {
+            number: 0,
+            v1: 1,
+            v2: nanos,
+            v3: 0,
+            taken: 0,
+        },
+        Act::SleepUnlessResumed(nanos, epoch) => Waited {
+            number: 0,
+            v1: 2,
+            v2: nanos,
+            v3: epoch,
+            taken: 0,
+        },
+        Act::Yield => Waited {
+            number: 0,
+            v1: 3,
+            v2: 0,
+            v3: 0,
+            taken: 0,
+        },
+        Act::LookAgain => Waited {
+            number: 0,
+            v1: 4,
+            v2: 0,
+            v3: 0,
+            taken: 0,
+        },
+    }
+}
+
+pub(crate) fn tell_awaited(answer: Awaited) -> Waited
+    ensures { λ r. ⌜ r ≡ packedWait (awaitedTold answer) 0 ⌝ }
+{
+    match answer {
+        Awaited::Next(act) => tell_act(act),
+        Awaited::Ends(end) => tell_completed(end, 0),
+        Awaited::Refused(r) => tell_refused(r, 0),
+    }
+}
+
+pub(crate) fn tell_course(course: Course, taken: u64) -> Waited
+    ensures { λ r. ⌜ r ≡ packedWait (courseTold course) taken ⌝ }
+{
+    match course {
+        Course::Ends(end) => tell_completed(end, taken),
+        Course::Unfinished => Waited {
+            number: 10,
+            v1: 0,
+            v2: 0,
+            v3: 0,
+            taken,
+        },
+        Course::Refused(r) => tell_refused(r, taken),
+    }
+}
+
+pub(crate) fn tell_dropped(answer: Dropped) -> Waited
+    ensures { λ r. ⌜ r ≡ packedWait (droppedTold answer) 0 ⌝ }
+{
+    match answer {
+        Dropped::GiveBack(n) => Waited {
+            number: 0,
+            v1: n,
+            v2: 0,
+            v3: 0,
+            taken: 0,
+        },
+        Dropped::Refused(r) => tell_refused(r, 0),
+    }
+}
