@@ -18,8 +18,8 @@ use Rattle.wait.specs.declared.Ran.the-variants as Ran·is
 use Rattle.wait.specs.declared.Running.{Running}
 use Rattle.wait.specs.Turns.{turnInBounds, waitInBounds}
 use Rattle.wait.specs.Manner.{Manner, tested, turnedAs, leaves, turned}
-use Rattle.wait.specs.Run.{ranAs, uncounted, oneStepMore, onward, standing, steps}
-use Rattle.wait.proofs.Walks.{in-order, in-order-cases, counting}
+use Rattle.wait.specs.Run.{ranAs, uncounted, oneStepMore, onward, stops, steps}
+use Rattle.wait.proofs.Walks.{in-order, in-order-cases, turnsOn}
 
 -- ---- one by one
 
@@ -56,8 +56,8 @@ module _ (m : Manner) where
   -- ---- a run that is not ended, and then another, is one run
 
   join-one : (a : Turned) (w : Wait) (ts us : List Observed) (n : ℕ) (v : Wait)
-      → ((x : Wait) (k : ℕ) → Stopped (steps m ts x) k v → steps m (ts ++ us) x ≡ counting k (steps m us v))
-      → Stopped (taking a w (λ x. steps m ts x)) n v → taking a w (λ x. steps m (ts ++ us) x) ≡ counting n (steps m us v)
+      → ((x : Wait) (k : ℕ) → Stopped (steps m ts x) k v → steps m (ts ++ us) x ≡ turnsOn k (steps m us v))
+      → Stopped (taking a w (λ x. steps m ts x)) n v → taking a w (λ x. steps m (ts ++ us) x) ≡ turnsOn n (steps m us v)
   join-one (Turned·is.Next act) w ts us n v ih e =
       let first = steps m ts w in
       let later = steps m us v in
@@ -69,13 +69,13 @@ module _ (m : Manner) where
   join-one (Turned·is.Ends x) w ts us n v ih e = absurd (false≢true (ap (λ (r : Running). isUnfinished (r .answer)) e))
   join-one (Turned·is.Refused r) w ts us n v ih e = absurd (false≢true (ap (λ (r : Running). isUnfinished (r .answer)) e))
 
-  nothing-first : (us : List Observed) (w : Wait) (n : ℕ) (v : Wait) → Stopped (steps m [] w) n v → steps m us w ≡ counting n (steps m us v)
+  nothing-first : (us : List Observed) (w : Wait) (n : ℕ) (v : Wait) → Stopped (steps m [] w) n v → steps m us w ≡ turnsOn n (steps m us v)
   unfolding steps
   nothing-first us w n v e =
       let later = steps m us v in
       ap (steps m us) (ap (λ (r : Running). r .wait) e) ∙ ap (λ (k : ℕ). ranAs (later .answer) k (later .wait)) (omega (arith, ap (λ (r : Running). r .taken) e))
 
-  pub two-runs : (ts us : List Observed) (w : Wait) (n : ℕ) (v : Wait) → Stopped (steps m ts w) n v → steps m (ts ++ us) w ≡ counting n (steps m us v)
+  pub two-runs : (ts us : List Observed) (w : Wait) (n : ℕ) (v : Wait) → Stopped (steps m ts w) n v → steps m (ts ++ us) w ≡ turnsOn n (steps m us v)
   two-runs [] us w n v e = nothing-first us w n v e
   two-runs (t ∷ ts) us w n v e =
       by-turns t (ts ++ us) w ∙ join-one (turned m w t .answer) (turned m w t .wait) ts us n v (λ x k h. two-runs ts us x k v h) (sym (by-turns t ts w) ∙ e)
@@ -104,9 +104,9 @@ module _ (m : Manner) where
   one-more-taken t ts (Ends x) h e = absurd (false≢true e)
 
   pub unfinished : (ts : List Observed) (w : Wait) → Unended ts (steps m ts w)
-  unfolding steps standing
+  unfolding steps stops
   unfinished [] w =
-      nothing-taken w (standing m w)
+      nothing-taken w (stops m w)
       (in-order-cases (λ (a : Ran). isUnfinished a ≡ true → (m .ended w ≡ false) × (waitInBounds w ≡ true)) (m .ended w) (not (waitInBounds w)) Ran·is.Refused Ran·is.Unfinished
       (λ r e. absurd (false≢true e)) (λ x y e. (x, not-false (waitInBounds w) y)))
   unfinished (t ∷ ts) w =

@@ -26,7 +26,7 @@ use Rattle.wait.specs.declared.Dropped.the-variants as Dropped·is
 use Rattle.wait.specs.declared.Dropping.{Dropping}
 use Rattle.wait.specs.Turns.{endedWait, turnInBounds, waitInBounds}
 use Rattle.wait.specs.Manner.{Manner, inOrder, tested, turnedAs, leaves, turned, droppedAs, dropped}
-use Rattle.wait.specs.Run.{ranAs, uncounted, standing, steps, turnOf, turnsOf, runs}
+use Rattle.wait.specs.Run.{ranAs, uncounted, stops, steps, turnOf, turnsOf, runs}
 
 -- ---- the tests of a turn
 
@@ -82,8 +82,8 @@ module _ (m : Manner) (w : Wait) (t : Observed) where
 -- ---- the turns that lie ahead
 
 -- what is left of a run, n turns on
-abbrev pub counting : ℕ → Running → Running
-counting n r = ranAs (r .answer) (n + r .taken) (r .wait)
+abbrev pub turnsOn : ℕ → Running → Running
+turnsOn n r = ranAs (r .answer) (n + r .taken) (r .wait)
 
 -- the turns that the limit allows of what lies ahead
 abbrev pub ahead : ℕ → List ℕ → List Observed
@@ -122,37 +122,37 @@ turn-from s at =
 
 module _ (m : Manner) where
   -- a wait that has ended or not, where no turn is left
-  pub stands : (w : Wait) (ended : Bool) (a : Ran) → ended ≡ m .ended w → a ≡ inOrder ended (not (waitInBounds w)) Ran·is.Refused Ran·is.Unfinished
-      → a ≡ standing m w
-  unfolding standing
-  stands w ended a e q = q ∙ rw e
+  pub stop-is : (w : Wait) (ended : Bool) (a : Ran) → ended ≡ m .ended w → a ≡ inOrder ended (not (waitInBounds w)) Ran·is.Refused Ran·is.Unfinished
+      → a ≡ stops m w
+  unfolding stops
+  stop-is w ended a e q = q ∙ rw e
 
-  pub stops-here : (n : ℕ) (ts : List Observed) (w : Wait) → ts ≡ [] → counting n (steps m ts w) ≡ ranAs (standing m w) n w
+  pub stops-here : (n : ℕ) (ts : List Observed) (w : Wait) → ts ≡ [] → turnsOn n (steps m ts w) ≡ ranAs (stops m w) n w
   unfolding steps
-  stops-here n ts w e = rw e (ap (λ (k : ℕ). ranAs (standing m w) k w) (omega arith))
+  stops-here n ts w e = rw e (ap (λ (k : ℕ). ranAs (stops m w) k w) (omega arith))
 
   module _ (n : ℕ) (w : Wait) (t : Observed) (ts : List Observed) where
-    pub step-refused : (r : Refusal) → Fails r ≡ tested m Fails Passes w t → counting n (steps m (t ∷ ts) w) ≡ ranAs (Ran·is.Refused r) n w
+    pub step-refused : (r : Refusal) → Fails r ≡ tested m Fails Passes w t → turnsOn n (steps m (t ∷ ts) w) ≡ ranAs (Ran·is.Refused r) n w
     unfolding steps
     step-refused r e =
-        ap (counting n) (sym (by-verdict m w t (uncounted w) _ (Fails r) e)) ∙ ap (λ (k : ℕ). ranAs (Ran·is.Refused r) k w) (omega arith)
+        ap (turnsOn n) (sym (by-verdict m w t (uncounted w) _ (Fails r) e)) ∙ ap (λ (k : ℕ). ranAs (Ran·is.Refused r) k w) (omega arith)
 
     pub step-goes : (act : Act) (next : Wait) → Passes ≡ tested m Fails Passes w t → Goes act next ≡ m .moves w t
-        → counting n (steps m (t ∷ ts) w) ≡ counting (n + 1) (steps m ts next)
+        → turnsOn n (steps m (t ∷ ts) w) ≡ turnsOn (n + 1) (steps m ts next)
     unfolding steps
     step-goes act next p e =
         let more = steps m ts next in
-        ap (counting n) (sym (by-verdict m w t (uncounted w) _ Passes p)) ∙ rw (← e) (ap (λ (k : ℕ). ranAs (more .answer) k (more .wait)) (omega arith))
+        ap (turnsOn n) (sym (by-verdict m w t (uncounted w) _ Passes p)) ∙ rw (← e) (ap (λ (k : ℕ). ranAs (more .answer) k (more .wait)) (omega arith))
 
-    pub step-ends : (e : Ending) → Passes ≡ tested m Fails Passes w t → Ends e ≡ m .moves w t → counting n (steps m (t ∷ ts) w) ≡ ranAs (Ran·is.Ends e) (n + 1) endedWait
+    pub step-ends : (e : Ending) → Passes ≡ tested m Fails Passes w t → Ends e ≡ m .moves w t → turnsOn n (steps m (t ∷ ts) w) ≡ ranAs (Ran·is.Ends e) (n + 1) endedWait
     unfolding steps
-    step-ends e p q = ap (counting n) (sym (by-verdict m w t (uncounted w) _ Passes p)) ∙ rw (← q) refl
+    step-ends e p q = ap (turnsOn n) (sym (by-verdict m w t (uncounted w) _ Passes p)) ∙ rw (← q) refl
 
   pub run-storage : (w : Wait) (xs : List ℕ) (limit : ℕ) → (length xs % 8 ≡ 0 → ⊥) → uncounted w Refusal·is.Storage ≡ runs m w xs limit
   unfolding runs
   run-storage w xs limit n = simp (ne-eqb _ _ n)
 
-  pub run-starts : (w : Wait) (xs : List ℕ) (limit : ℕ) → length xs % 8 ≡ 0 → counting 0 (steps m (ahead (limit - 0) xs) w) ≡ runs m w xs limit
+  pub run-starts : (w : Wait) (xs : List ℕ) (limit : ℕ) → length xs % 8 ≡ 0 → turnsOn 0 (steps m (ahead (limit - 0) xs) w) ≡ runs m w xs limit
   unfolding runs
   run-starts w xs limit e =
       let all : Running = steps m (ahead limit xs) w in
@@ -179,17 +179,17 @@ module _ (s : List ℕ) (limit at taken : ℕ) where
   next-less l = omega (arith, l, length-drop at s, length-drop (at + 8) s)
 
 module _ (m : Manner) (s : List ℕ) (limit at taken : ℕ) (w : Wait) where
-  pub at-limit : limit ≤ taken → counting taken (steps m (ahead (limit - taken) (drop at s)) w) ≡ ranAs (standing m w) taken w
+  pub at-limit : limit ≤ taken → turnsOn taken (steps m (ahead (limit - taken) (drop at s)) w) ≡ ranAs (stops m w) taken w
   at-limit l = stops-here m taken _ w (limit-reached (drop at s) (limit - taken) (omega (arith, l)))
 
-  pub at-end : length s ≤ at → counting taken (steps m (ahead (limit - taken) (drop at s)) w) ≡ ranAs (standing m w) taken w
+  pub at-end : length s ≤ at → turnsOn taken (steps m (ahead (limit - taken) (drop at s)) w) ≡ ranAs (stops m w) taken w
   at-end l = stops-here m taken _ w (none-ahead (limit - taken) (drop at s) (omega (arith, l, length-drop at s)))
 
   -- a turn v that was read there, in a run that comes to `all`
   module _ (all : Running) (v : Observed) (d : length (drop at s) % 8 ≡ 0) (l : at < length s) (lt : taken < limit)
-      (so : counting taken (steps m (ahead (limit - taken) (drop at s)) w) ≡ all) (is : v ≡ turnOf (drop at s)) where
-    there : counting taken (steps m (v ∷ ahead (limit - (taken + 1)) (drop (at + 8) s)) w) ≡ all
-    there = ap (λ (x : Observed). counting taken (steps m (x ∷ ahead (limit - (taken + 1)) (drop (at + 8) s)) w)) is ∙ ap (λ (ts : List Observed). counting taken (steps m ts w)) (sym (next-turn s limit at taken d l lt)) ∙ so
+      (so : turnsOn taken (steps m (ahead (limit - taken) (drop at s)) w) ≡ all) (is : v ≡ turnOf (drop at s)) where
+    there : turnsOn taken (steps m (v ∷ ahead (limit - (taken + 1)) (drop (at + 8) s)) w) ≡ all
+    there = ap (λ (x : Observed). turnsOn taken (steps m (x ∷ ahead (limit - (taken + 1)) (drop (at + 8) s)) w)) is ∙ ap (λ (ts : List Observed). turnsOn taken (steps m ts w)) (sym (next-turn s limit at taken d l lt)) ∙ so
 
     pub run-refused : (r : Refusal) → Fails r ≡ tested m Fails Passes w v → ranAs (Ran·is.Refused r) taken w ≡ all
     run-refused r e = sym (step-refused m taken w v _ r e) ∙ there
@@ -198,5 +198,5 @@ module _ (m : Manner) (s : List ℕ) (limit at taken : ℕ) (w : Wait) where
     run-ends e p q = sym (step-ends m taken w v _ e p q) ∙ there
 
     pub run-goes : (act : Act) (next : Wait) → Passes ≡ tested m Fails Passes w v → Goes act next ≡ m .moves w v
-        → counting (taken + 1) (steps m (ahead (limit - (taken + 1)) (drop (at + 8) s)) next) ≡ all
+        → turnsOn (taken + 1) (steps m (ahead (limit - (taken + 1)) (drop (at + 8) s)) next) ≡ all
     run-goes act next p q = sym (step-goes m taken w v _ act next p q) ∙ there

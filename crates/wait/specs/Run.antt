@@ -34,15 +34,15 @@ abbrev pub uncounted : Wait → Refusal → Running
 uncounted w r = ranAs (Ran·is.Refused r) 0 w
 
 -- no turn is left, or the limit is reached: 11 and 1 for the wait alone, else 10
-unfoldable pub standing : Manner → Wait → Ran
-standing m w = testedAlone m Ran·is.Refused Ran·is.Unfinished w
+unfoldable pub stops : Manner → Wait → Ran
+stops m w = testedAlone m Ran·is.Refused Ran·is.Unfinished w
 
 abbrev pub onward : Move → (Wait → Running) → Running
 onward (Goes act w) more = oneStepMore (more w)
 onward (Ends e) more = ranAs (Ran·is.Ends e) 1 endedWait
 
 unfoldable pub steps : Manner → List Observed → Wait → Running
-steps m [] w = ranAs (standing m w) 0 w
+steps m [] w = ranAs (stops m w) 0 w
 steps m (t ∷ ts) w = tested m (uncounted w) (onward (m .moves w t) (λ next. steps m ts next)) w t
 
 -- ---- the entry point: "turns not a multiple of 8" is 3; then as many turns as the limit says

@@ -25,7 +25,7 @@ use crate::keep::moves;
 use crate::keep::test;
 use crate::manner::drop_as;
 use crate::manner::ended_wait;
-use crate::manner::stand;
+use crate::manner::stop;
 use crate::manner::turn_at;
 use error::Refusal;
 
@@ -108,7 +108,7 @@ pub fn run(wait: Wait, turns: &[u64], limit: u64) -> Running
     let mut reached = wait;
     while at < turns.len() {
         if taken >= limit {
-            return ran_as(stand(has_ended(reached), reached), taken, reached);
+            return ran_as(stop(has_ended(reached), reached), taken, reached);
         }
         let turn = turn_at(turns, at);
         let verdict = test(reached, turn);
@@ -127,7 +127,7 @@ pub fn run(wait: Wait, turns: &[u64], limit: u64) -> Running
         at += TURN_WIDTH;
         taken += 1;
     }
-    ran_as(stand(has_ended(reached), reached), taken, reached)
+    ran_as(stop(has_ended(reached), reached), taken, reached)
 }
 
 // Ends a wait before it has ended (`Drop` of the Rust's `Release`): a held grant is to be given back.

@@ -72,7 +72,7 @@ pub(crate) fn turn_at(turns: &[u64], at: usize) -> Observed
 }
 
 // What a run is told when no turn is left or its limit is reached.
-pub(crate) fn stand(ended: bool, wait: Wait) -> Ran
+pub(crate) fn stop(ended: bool, wait: Wait) -> Ran
     ensures { λ r. ⌜ r ≡ inOrder ended (not (waitInBounds wait)) Ran·is.Refused Ran·is.Unfinished ⌝ }
 {
     if ended {

@@ -8,12 +8,12 @@ use Rattle.wait.specs.declared.Ran.{Ran}
 use Rattle.wait.specs.declared.Ran.the-variants.{Ends}
 use Rattle.wait.specs.Run.{ranAs, steps, runs, tellRun}
 use Rattle.wait.specs.Keep.{keep}
-use Rattle.wait.proofs.Walks.{counting, ahead, passes-bounds, stands, run-storage, run-starts, a-turn, next-whole, next-less, at-limit, at-end, run-refused, run-goes, run-ends}
+use Rattle.wait.proofs.Walks.{turnsOn, ahead, passes-bounds, stop-is, run-storage, run-starts, a-turn, next-whole, next-less, at-limit, at-end, run-refused, run-goes, run-ends}
 use Rattle.wait.proofs.calls.run.Statement.{statement}
 use Rattle.wait.proofs.calls.run.Tie as tie
 
 abbrev Inv-loop : tie.InvT-loop
-Inv-loop turns limit at₀ taken₀ reached₀ at taken reached = (length (drop at turns) % 8 ≡ 0) × (taken ≤ limit) × (counting taken (steps keep (ahead (limit - taken) (drop at turns)) reached) ≡ runs keep reached₀ turns limit)
+Inv-loop turns limit at₀ taken₀ reached₀ at taken reached = (length (drop at turns) % 8 ≡ 0) × (taken ≤ limit) × (turnsOn taken (steps keep (ahead (limit - taken) (drop at turns)) reached) ≡ runs keep reached₀ turns limit)
 
 abbrev μ-loop : tie.MeasureT-loop
 μ-loop turns limit at₀ taken₀ reached₀ at taken reached = length (drop at turns)
@@ -32,8 +32,8 @@ loop-holds c = (c .if1 .left, omega arith, run-starts keep (c .before .before .a
 has-ended-requires : tie.Need-has-ended-requires Inv-loop μ-loop
 has-ended-requires c κs = search needs
 
-stand-requires : tie.Need-stand-requires Inv-loop μ-loop
-stand-requires c κs = search needs
+stop-requires : tie.Need-stop-requires Inv-loop μ-loop
+stop-requires c κs = search needs
 
 ran-as-requires-2 : tie.Need-ran-as-requires-2 Inv-loop μ-loop
 ran-as-requires-2 c κs = search needs
@@ -42,7 +42,7 @@ returns-2 : tie.Need-returns-2 Inv-loop μ-loop
 returns-2 c =
     let args = c .before .before .before .before .before .before .before .before .args in
     let loop = c .before .before .before .before .before .loop in
-    ap tellRun (c .ran-as2 .ensures ∙ ap (λ (a : Ran). ranAs a (loop .taken) (loop .reached)) (stands keep (loop .reached) _ _ (c .before .before .has-ended .ensures) (c .before .stand .ensures)) ∙ sym (at-limit keep (args .turns .now) (args .limit) (loop .at) (loop .taken) (loop .reached) (c .before .before .before .if2 .taken)) ∙ loop .inv .2)
+    ap tellRun (c .ran-as2 .ensures ∙ ap (λ (a : Ran). ranAs a (loop .taken) (loop .reached)) (stop-is keep (loop .reached) _ _ (c .before .before .has-ended .ensures) (c .before .stop .ensures)) ∙ sym (at-limit keep (args .turns .now) (args .limit) (loop .at) (loop .taken) (loop .reached) (c .before .before .before .if2 .taken)) ∙ loop .inv .2)
 
 turn-at-requires : tie.Need-turn-at-requires Inv-loop μ-loop
 turn-at-requires c κs =
@@ -128,8 +128,8 @@ loop-again c =
 has-ended-requires-2 : tie.Need-has-ended-requires-2 Inv-loop μ-loop
 has-ended-requires-2 c κs = search needs
 
-stand-requires-2 : tie.Need-stand-requires-2 Inv-loop μ-loop
-stand-requires-2 c κs = search needs
+stop-requires-2 : tie.Need-stop-requires-2 Inv-loop μ-loop
+stop-requires-2 c κs = search needs
 
 ran-as-requires-5 : tie.Need-ran-as-requires-5 Inv-loop μ-loop
 ran-as-requires-5 c κs = search needs
@@ -138,7 +138,7 @@ returns-5 : tie.Need-returns-5 Inv-loop μ-loop
 returns-5 c =
     let args = c .before .before .before .before .before .before .before .args in
     let loop = c .before .before .before .before .loop in
-    ap tellRun (c .ran-as5 .ensures ∙ ap (λ (a : Ran). ranAs a (loop .taken) (loop .reached)) (stands keep (loop .reached) _ _ (c .before .before .has-ended2 .ensures) (c .before .stand2 .ensures)) ∙ sym (at-end keep (args .turns .now) (args .limit) (loop .at) (loop .taken) (loop .reached) (c .before .before .before .loop-test .left)) ∙ loop .inv .2)
+    ap tellRun (c .ran-as5 .ensures ∙ ap (λ (a : Ran). ranAs a (loop .taken) (loop .reached)) (stop-is keep (loop .reached) _ _ (c .before .before .has-ended2 .ensures) (c .before .stop2 .ensures)) ∙ sym (at-end keep (args .turns .now) (args .limit) (loop .at) (loop .taken) (loop .reached) (c .before .before .before .loop-test .left)) ∙ loop .inv .2)
 
 pub run-spec : {M : Type 1} → statement M
 run-spec =
@@ -150,7 +150,7 @@ run-spec =
     returns
     loop-holds
     has-ended-requires
-    stand-requires
+    stop-requires
     ran-as-requires-2
     returns-2
     turn-at-requires
@@ -171,6 +171,6 @@ run-spec =
     loop-less
     loop-again
     has-ended-requires-2
-    stand-requires-2
+    stop-requires-2
     ran-as-requires-5
     returns-5)

@@ -1,8 +1,8 @@
--- `wait::manner::stand` meets its contract: each `return` is what the tests on its way make of the definition. Assumes nothing.
+-- `wait::manner::stop` meets its contract: each `return` is what the tests on its way make of the definition. Assumes nothing.
 use borrow.Author.Needs.{needs}
 use borrow.Author.Tests.{not-true, not-false}
-use Rattle.wait.proofs.manner.stand.Statement.{statement}
-use Rattle.wait.proofs.manner.stand.Tie as tie
+use Rattle.wait.proofs.manner.stop.Statement.{statement}
+use Rattle.wait.proofs.manner.stop.Tie as tie
 
 returns : tie.Need-returns
 returns c = simp (c .if1 .taken)
@@ -16,5 +16,5 @@ returns-2 c = simp (c .before .before .if1 .left, ← c .before .wait-in-bounds 
 returns-3 : tie.Need-returns-3
 returns-3 c = simp (c .before .before .if1 .left, ← c .before .wait-in-bounds .ensures, not-false (c .before .wait-in-bounds .result) (c .if2 .left))
 
-pub stand-spec : {M : Type 1} → statement M
-stand-spec = tie.close (tie.spec returns wait-in-bounds-requires returns-2 returns-3)
+pub stop-spec : {M : Type 1} → statement M
+stop-spec = tie.close (tie.spec returns wait-in-bounds-requires returns-2 returns-3)
