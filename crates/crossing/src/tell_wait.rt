@@ -5,7 +5,7 @@ ghost use Rattle.wait.specs.Answers.{actValues, droppedTold};
 ghost use Rattle.waiting.specs.Answers.{begunTold, completedTold, awaitedTold, courseTold};
 ghost use Rattle.crossing.specs.Waits.{packedWait};
 use crate::Waited;
-use crate::tell::flag;
+use crate::ticket::flag;
 use error::Refusal;
 use wait::Act;
 use wait::Dropped;
@@ -26,7 +26,9 @@ fn tell_refused(refusal: Refusal, taken: u64) -> Waited
     }
 }
 
-pub(crate) fn tell_begun(answer: Begun) -> Waited
+// How a wait begins: 0, or 6 with the delay.
+// Ruled out: a shed told 0; a refused time told 6.
+pub fn tell_begun(answer: Begun) -> Waited
     ensures { λ r. ⌜ r ≡ packedWait (begunTold answer) 0 ⌝ }
 {
     match answer {
@@ -57,7 +59,7 @@ fn tell_completed(end: Completed, taken: u64) -> Waited
             number: 0,
             v1: 0,
             v2: t.generation,
-            v3: flag(t.probe),
+            v3: flag(t.probe) as u64,
             taken,
         },
         Completed::Shed(d, refund) => Waited {
@@ -120,7 +122,9 @@ fn tell_act(act: Act) -> Waited
     }
 }
 
-pub(crate) fn tell_awaited(answer: Awaited) -> Waited
+// What a turn came to: what the host is to do, an end, or a refusal.
+// Ruled out: an epoch told as the time to sleep; an admission told without its ticket.
+pub fn tell_awaited(answer: Awaited) -> Waited
     ensures { λ r. ⌜ r ≡ packedWait (awaitedTold answer) 0 ⌝ }
 {
     match answer {
@@ -130,7 +134,9 @@ pub(crate) fn tell_awaited(answer: Awaited) -> Waited
     }
 }
 
-pub(crate) fn tell_course(course: Course, taken: u64) -> Waited
+// What a run came to, after so many turns.
+// Ruled out: turns used up told as a deadline; a refused run told to have taken none.
+pub fn tell_course(course: Course, taken: u64) -> Waited
     ensures { λ r. ⌜ r ≡ packedWait (courseTold course) taken ⌝ }
 {
     match course {
@@ -146,7 +152,9 @@ pub(crate) fn tell_course(course: Course, taken: u64) -> Waited
     }
 }
 
-pub(crate) fn tell_dropped(answer: Dropped) -> Waited
+// What a drop gives back.
+// Ruled out: a held grant told as nothing to give back; an ended wait told 0.
+pub fn tell_dropped(answer: Dropped) -> Waited
     ensures { λ r. ⌜ r ≡ packedWait (droppedTold answer) 0 ⌝ }
 {
     match answer {
