@@ -29,7 +29,7 @@ use Rattle.crossing.specs.declared.PlainTicket.{PlainTicket}
 
 -- the number, and the values in their order, 0 where there is none; a probe flag is a value of 0 or 1
 abbrev pub packed : Answer → Told
-packed t = record { number = t .number; v1 = getD (t .values) 0 0; v2 = getD (t .values) 1 0 }
+packed t = record { number = t .number; v1 = getD (t .values) 0 0; v2 = getD (t .values) 1 0; v3 = getD (t .values) 2 0 }
 
 -- what a call leaves: what it told, the record, and every place
 pub record Crossing : Type 0 where

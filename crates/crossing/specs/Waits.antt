@@ -16,7 +16,7 @@ use Rattle.crossing.specs.Crossing.{ticketBy}
 
 -- the number, the values in their order, 0 where there is none, and the turns that a run took
 abbrev pub packedWait : Answer → ℕ → Waited
-packedWait t taken = record { number = t .number; v1 = getD (t .values) 0 0; v2 = getD (t .values) 1 0; v3 = getD (t .values) 2 0; taken = taken }
+packedWait t taken = record { number = t .number; v1 = getD (t .values) 0 0; v2 = getD (t .values) 1 0; v3 = getD (t .values) 2 0; v4 = getD (t .values) 3 0; taken = taken }
 
 -- ---- a wait with its ticket, as a caller holds it
 

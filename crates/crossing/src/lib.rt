@@ -37,6 +37,7 @@ pub struct Told {
     pub number: u32,
     pub v1: u64,
     pub v2: u64,
+    pub v3: u64,
 }
 
 // What a caller of a wait is told: as above, with the values of wait's and waiting's specs/Answers, and the turns that a run took.
@@ -46,6 +47,7 @@ pub struct Waited {
     pub v1: u64,
     pub v2: u64,
     pub v3: u64,
+    pub v4: u64,
     // 0 where the call is no run
     pub taken: u64,
 }

@@ -24,6 +24,7 @@ pub(crate) fn tell_refusal(refusal: Refusal) -> Told
         number: error::number(refusal),
         v1: 0,
         v2: 0,
+        v3: 0,
     }
 }
 
@@ -37,6 +38,7 @@ pub fn tell_finished(answer: Finished) -> Told
             number: 0,
             v1: 0,
             v2: 0,
+            v3: 0,
         },
         Finished::Refused(r) => tell_refusal(r),
     }
@@ -52,11 +54,13 @@ pub fn tell_admission(answer: Admission) -> Told
             number: 0,
             v1: t.generation,
             v2: flag(t.probe) as u64,
+            v3: 0,
         },
         Admission::Shed(d) => Told {
             number: 6,
             v1: d.ms,
             v2: 0,
+            v3: 0,
         },
         Admission::Refused(r) => tell_refusal(r),
     }
@@ -72,21 +76,25 @@ pub fn tell_tried(answer: Tried) -> Told
             number: 0,
             v1: t.generation,
             v2: flag(t.probe) as u64,
+            v3: 0,
         },
         Tried::Shed(d) => Told {
             number: 6,
             v1: d.ms,
             v2: 0,
+            v3: 0,
         },
         Tried::Retry => Told {
             number: 7,
             v1: 0,
             v2: 0,
+            v3: 0,
         },
         Tried::Impossible { cost, capacity } => Told {
             number: 8,
             v1: cost as u64,
             v2: capacity as u64,
+            v3: 0,
         },
         Tried::Refused(r) => tell_refusal(r),
     }
@@ -102,11 +110,13 @@ pub fn tell_standing(answer: Standing) -> Told
             number: 0,
             v1: 0,
             v2: 0,
+            v3: 0,
         },
         Standing::Shed(d) => Told {
             number: 6,
             v1: d.ms,
             v2: 0,
+            v3: 0,
         },
         Standing::Refused(r) => tell_refusal(r),
     }
@@ -122,6 +132,7 @@ pub fn tell_notice(answer: Notice) -> Told
             number: 0,
             v1: cost as u64,
             v2: 0,
+            v3: 0,
         },
         Notice::Refused(r) => tell_refusal(r),
     }
@@ -135,16 +146,19 @@ fn tell_decision(d: Decision) -> Told
             number: 0,
             v1: 1,
             v2: 0,
+            v3: 0,
         },
         Decision::Retry(delay) => Told {
             number: 0,
             v1: 2,
             v2: delay.ms,
+            v3: 0,
         },
         Decision::Impossible => Told {
             number: 0,
             v1: 3,
             v2: 0,
+            v3: 0,
         },
     }
 }
@@ -168,11 +182,13 @@ fn tell_reservation(w: Reservation) -> Told
             number: 0,
             v1: 1,
             v2: delay.ms,
+            v3: 0,
         },
         Reservation::Nothing => Told {
             number: 0,
             v1: 0,
             v2: 0,
+            v3: 0,
         },
     }
 }
@@ -198,6 +214,7 @@ pub fn tell_counted(answer: Counted) -> Told
             number: 0,
             v1: n,
             v2: 0,
+            v3: 0,
         },
         Counted::Refused(r) => tell_refusal(r),
     }

@@ -22,6 +22,7 @@ fn tell_refused(refusal: Refusal, taken: u64) -> Waited
         v1: 0,
         v2: 0,
         v3: 0,
+        v4: 0,
         taken,
     }
 }
@@ -37,6 +38,7 @@ pub fn tell_begun(answer: Begun) -> Waited
             v1: 0,
             v2: 0,
             v3: 0,
+            v4: 0,
             taken: 0,
         },
         Begun::Shed(d) => Waited {
@@ -44,6 +46,7 @@ pub fn tell_begun(answer: Begun) -> Waited
             v1: d.ms,
             v2: 0,
             v3: 0,
+            v4: 0,
             taken: 0,
         },
         Begun::Refused(r) => tell_refused(r, 0),
@@ -60,6 +63,7 @@ fn tell_completed(end: Completed, taken: u64) -> Waited
             v1: 0,
             v2: t.generation,
             v3: flag(t.probe) as u64,
+            v4: 0,
             taken,
         },
         Completed::Shed(d, refund) => Waited {
@@ -67,6 +71,7 @@ fn tell_completed(end: Completed, taken: u64) -> Waited
             v1: d.ms,
             v2: refund,
             v3: 0,
+            v4: 0,
             taken,
         },
         Completed::Impossible(cost, capacity) => Waited {
@@ -74,6 +79,7 @@ fn tell_completed(end: Completed, taken: u64) -> Waited
             v1: cost,
             v2: capacity,
             v3: 0,
+            v4: 0,
             taken,
         },
         Completed::Deadline(back) => Waited {
@@ -81,6 +87,7 @@ fn tell_completed(end: Completed, taken: u64) -> Waited
             v1: back,
             v2: 0,
             v3: 0,
+            v4: 0,
             taken,
         },
     }
@@ -96,6 +103,7 @@ fn tell_act(act: Act) -> Waited
             v1: 1,
             v2: nanos,
             v3: 0,
+            v4: 0,
             taken: 0,
         },
         Act::SleepUnlessResumed(nanos, epoch) => Waited {
@@ -103,6 +111,7 @@ fn tell_act(act: Act) -> Waited
             v1: 2,
             v2: nanos,
             v3: epoch,
+            v4: 0,
             taken: 0,
         },
         Act::Yield => Waited {
@@ -110,6 +119,7 @@ fn tell_act(act: Act) -> Waited
             v1: 3,
             v2: 0,
             v3: 0,
+            v4: 0,
             taken: 0,
         },
         Act::LookAgain => Waited {
@@ -117,6 +127,7 @@ fn tell_act(act: Act) -> Waited
             v1: 4,
             v2: 0,
             v3: 0,
+            v4: 0,
             taken: 0,
         },
     }
@@ -146,6 +157,7 @@ pub fn tell_course(course: Course, taken: u64) -> Waited
             v1: 0,
             v2: 0,
             v3: 0,
+            v4: 0,
             taken,
         },
         Course::Refused(r) => tell_refused(r, taken),
@@ -163,6 +175,7 @@ pub fn tell_dropped(answer: Dropped) -> Waited
             v1: n,
             v2: 0,
             v3: 0,
+            v4: 0,
             taken: 0,
         },
         Dropped::Refused(r) => tell_refused(r, 0),
