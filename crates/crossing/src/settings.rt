@@ -4,7 +4,7 @@ ghost use Rattle.crossing.specs.Crossing.{packed, tripBy, builderBy, unk
 use crate::Setting;
 use crate::Told;
 use crate::tell::tell_refusal;
-use breaker::PLACES;
+use history::PLACES;
 use error::Refusal;
 use trip::CircuitBreakerBuilder;
 use trip::Duration;
