@@ -28,8 +28,8 @@ static double least(const PudvirezBreaker *b) {
 int main(void) {
     static const uint32_t lengths[] = {0, 1, 99, 100, 2048, 2049, 4096};
     PudvirezBreaker b;
-    PudvirezSetting setting = {.kind = 2, .limit = PUDVIREZ_PLACES, .ratio = 1.0, .trials = 1, .required = 1};
-    if (pudvirez_build(&b, list, PUDVIREZ_PLACES, setting).number != 0) return 1;
+    PudvirezSetting setting = {.kind = PUDVIREZ_POLICY_RATIO, .limit = PUDVIREZ_PLACES, .ratio = 1.0, .trials = 1, .required = 1};
+    if (pudvirez_build(&b, list, PUDVIREZ_PLACES, setting).number != PUDVIREZ_TOLD_OK) return 1;
     for (size_t i = 0; i < sizeof lengths / sizeof *lengths; i++) {
         b.shared.len = lengths[i];
         if (!pudvirez_is_sound(&b, list, PUDVIREZ_PLACES)) return 1;

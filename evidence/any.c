@@ -2,10 +2,10 @@
  *
  *     any ROUNDS SEED
  *
- * A round draws a record, a storage, a pending wait and the rest, makes one call, and checks it by document 01: the number it must be told
- * (first 3, 4, 11, 1, 2 in this order, then 5 to 10 as the rules meet them), that a refused call left every field and place as it was,
- * and that an accepted one left a sound record. Soundness and numbers are computed here a second time. A run is compared with its turns,
- * one by one, on copies.
+ * A round draws a record, a storage, a pending wait and the rest, and makes one call. The same is computed by document 01 once more
+ * (model.c): every value told, every field of record and wait, every place and every answer of a batch must be as computed there. So
+ * a refused call must have left all as it was, and an accepted one a record that is sound by both computations. A flag is 0 or each of
+ * the 255 other bytes in turn.
  *
  * Each buffer is exactly as large as its count says, either on the heap (for sanitizers and valgrind) or against a page that can't be
  * touched (for code that no sanitizer has seen). It prints the counts, and exits 0 only without a finding. */
@@ -17,7 +17,7 @@
 #include <sys/mman.h>
 #include <unistd.h>
 
-#include "pudvirez.h"
+#include "model.h"
 
 #define BOUND (UINT64_C(1) << 62)
 
@@ -86,7 +86,7 @@ static const size_t turn_counts[] = { 0, 1, 7, 8, 9, 16, 160 };
 static const size_t call_counts[] = { 0, 1, 3, 16, 64 };
 static Exact storages[5], turn_buffers[7], generation_buffers[5], probe_buffers[5], settle_buffers[5], mark_buffers[5], answer_buffers[5], records, pendings;
 
-static uint64_t zeros[4097], ones[4097], flags[4097], times[4097], edges[4097], held[4097], copied[4097];
+static uint64_t zeros[4097], ones[4097], flags[4097], times[4097], edges[4097];
 
 static void make_buffers(void)
 {
@@ -112,10 +112,47 @@ static void make_buffers(void)
     }
 }
 
+/* ---- the functions, and the flags of each */
+
+enum { BUILD, ADMIT_AS, SETTLE, ABORT_AS, PERMIT_SUCCESS, PERMIT_FAILURE, PERMIT_DROPPED, PERMIT_CANCEL, RESET, RECORD_MANUAL, RELEASE_TRAIT_PROBE, TRY_ADMIT, ACQUIRE_COST, RESERVE, REFUND, FINISH_ALL,
+       WAIT_START, WAIT_TURN, WAIT_RUN, WAIT_DROP, STILL_ADMITS, PEEK, AVAILABLE, BOARD, IS_SOUND, FUNCTIONS };
+static const char *const names[FUNCTIONS] = { "build", "admit_as", "settle", "abort_as", "permit_success", "permit_failure", "permit_dropped", "permit_cancel", "reset", "record_manual", "release_trait_probe",
+       "try_admit", "acquire_cost", "reserve", "refund", "finish_all", "wait_start", "wait_turn", "wait_run", "wait_drop", "still_admits", "peek", "available", "board", "is_sound" };
+
+/* A flag of a function: via_trait, success, limited or marks; a ticket's or a batch's probe; a pending wait's probe, or settles. */
+enum { MARK, PROBE, THIRD, SLOTS };
+static const bool has_flag[FUNCTIONS][SLOTS] = {
+    [ADMIT_AS] = { [MARK] = true },
+    [SETTLE] = { [MARK] = true, [PROBE] = true },
+    [ABORT_AS] = { [MARK] = true, [PROBE] = true },
+    [PERMIT_SUCCESS] = { [PROBE] = true },
+    [PERMIT_FAILURE] = { [PROBE] = true },
+    [PERMIT_DROPPED] = { [PROBE] = true },
+    [PERMIT_CANCEL] = { [PROBE] = true },
+    [RECORD_MANUAL] = { [MARK] = true },
+    [FINISH_ALL] = { [MARK] = true, [PROBE] = true, [THIRD] = true },
+    [WAIT_START] = { [MARK] = true, [THIRD] = true },
+    [WAIT_TURN] = { [THIRD] = true },
+    [WAIT_RUN] = { [THIRD] = true },
+    [WAIT_DROP] = { [THIRD] = true },
+    [STILL_ADMITS] = { [PROBE] = true },
+};
+static uint8_t next_byte[FUNCTIONS][SLOTS];
+static uint64_t handed[FUNCTIONS][SLOTS][256];
+
+/* 0, or each byte in turn. */
+static uint8_t flag(int f, int slot)
+{
+    uint8_t byte = coin() ? 0 : next_byte[f][slot]++;
+    handed[f][slot][byte] += has_flag[f][slot];
+    return byte;
+}
+
 /* ---- what is lent in this round */
 
-static PudvirezBreaker *b, b0;
-static PudvirezPending *p, p0;
+static int f;
+static PudvirezBreaker *b;
+static PudvirezPending *p;
 static uint64_t *list, now;
 static size_t places;
 
@@ -134,10 +171,10 @@ static void draw_sound(void)
     c.trials += c.trials == 0;
     c.required = 1 + (uint32_t)below(chance(2) ? c.trials : c.trials < 3 ? c.trials : 3);
     c.limit = 1 + (uint32_t)below(chance(3) ? 4096 : 8);
-    if (c.kind == 1 && chance(2))
+    if (c.kind == PUDVIREZ_POLICY_CONSECUTIVE && chance(2))
         c.limit = half() | 1;
     const uint64_t *from = zeros;
-    if (c.kind == 2) {
+    if (c.kind == PUDVIREZ_POLICY_RATIO) {
         double r = ratio();
         memcpy(&c.ratio_bits, &r, 8);
         c.min_calls = (uint32_t)below(c.limit + 1);
@@ -145,15 +182,15 @@ static void draw_sound(void)
             c.limit = 4096;
         s.len = chance(3) ? c.limit : (uint32_t)below(c.limit + 1);
         from = chance(4) ? ones : chance(4) ? zeros : flags;
-    } else if (c.kind == 3) {
+    } else if (c.kind == PUDVIREZ_POLICY_WINDOWED) {
         c.period_ms = coin() ? below(6000) : word();
         s.len = chance(2) ? 4096 : chance(2) ? (uint32_t)below(4097) : (uint32_t)below(9);
         from = chance(5) ? edges : chance(9) ? ones : times;
     }
-    if (s.state == 1) {
-        s.inflight = chance(3) ? c.trials : (uint32_t)below((uint64_t)c.trials + 1);
-        s.trait_probes = chance(4) ? half() : (uint32_t)below(3);
-        s.successes = chance(2) ? c.required - 1 : (uint32_t)below(c.required);
+    if (s.state == PUDVIREZ_STATE_HALF_OPEN) {
+        s.counts.inflight = chance(3) ? c.trials : (uint32_t)below((uint64_t)c.trials + 1);
+        s.counts.trait_probes = chance(4) ? half() : (uint32_t)below(3);
+        s.counts.successes = chance(2) ? c.required - 1 : (uint32_t)below(c.required);
     }
     b->config = c;
     b->shared = s;
@@ -176,13 +213,13 @@ static void damage(void)
     case 5: c->trials = half(); break;
     case 6: c->required = half(); break;
     case 7: s->state = (uint8_t)word(); break;
-    case 8: s->inflight = half(); break;
-    case 9: s->trait_probes = half(); break;
-    case 10: s->successes = half(); break;
+    case 8: s->counts.inflight = half(); break;
+    case 9: s->counts.trait_probes = half(); break;
+    case 10: s->counts.successes = half(); break;
     case 11: s->len = half(); break;
     case 12: s->len += coin() ? 1 : UINT32_MAX; break;
-    case 13: s->inflight = c->trials + 1; break;
-    case 14: s->successes = c->required; break;
+    case 13: s->counts.inflight = c->trials + 1; break;
+    case 14: s->counts.successes = c->required; break;
     case 15: c->cooldown_ms = word(); break;
     default:
         if (places != 0)
@@ -194,7 +231,7 @@ static void damage(void)
 static void draw_wild(void)
 {
     b->config = (PudvirezConfig){ (uint8_t)word(), half(), word(), half(), word(), word(), half(), half() };
-    b->shared = (PudvirezShared){ (uint8_t)word(), word(), half(), half(), half(), half(), word(), half() };
+    b->shared = (PudvirezShared){ (uint8_t)word(), word(), half(), { half(), half(), half() }, word(), half() };
     const uint64_t *all[] = { zeros, ones, flags, times, edges };
     memcpy(list, all[below(5)], 8 * places);
 }
@@ -214,7 +251,7 @@ static void draw_pending(void)
     }
     p->wait = w;
     p->ticket.generation = chance(3) ? word() : b->shared.generation;
-    p->ticket.probe = coin();
+    p->ticket.probe = flag(f, THIRD);
 }
 
 static PudvirezTurn draw_turn(void)
@@ -223,88 +260,7 @@ static PudvirezTurn draw_turn(void)
     return (PudvirezTurn){ nanos(), epoch, chance(3) ? word() : epoch, chance(20) ? word() : 1 + below(3), chance(3) ? 0 : nanos(), coin() ? 0 : nanos(), nanos(), nanos() };
 }
 
-static PudvirezTicket draw_ticket(void) { return (PudvirezTicket){ chance(3) ? word() : b->shared.generation, coin() }; }
-
-/* ---- document 01 a second time */
-
-static bool sound_record(const PudvirezBreaker *r)
-{
-    const PudvirezConfig *c = &r->config;
-    const PudvirezShared *s = &r->shared;
-    double q;
-    memcpy(&q, &c->ratio_bits, 8);
-    bool policy = (c->kind == 1 && c->limit >= 1 && c->ratio_bits == 0 && c->min_calls == 0 && c->period_ms == 0 && s->len == 0)
-                  || (c->kind == 2 && c->limit >= 1 && c->limit <= 4096 && q >= 0.0 && q <= 1.0 && c->min_calls <= c->limit && c->period_ms == 0 && s->len <= c->limit)
-                  || (c->kind == 3 && c->limit >= 1 && c->limit <= 4096 && c->ratio_bits == 0 && c->min_calls == 0 && s->len <= 4096);
-    return policy && c->trials >= 1 && c->required >= 1 && c->required <= c->trials && s->state <= 2 && s->inflight <= c->trials && s->successes < c->required
-           && (s->state == 1 || (s->inflight == 0 && s->trait_probes == 0 && s->successes == 0));
-}
-
-/* Of a record that is sound and of 4,096 places. */
-static bool sound_list(const PudvirezBreaker *r, const uint64_t *at)
-{
-    uint64_t bits = 0;
-    if (r->config.kind == 2)
-        for (uint32_t i = 0; i < r->shared.len; i++)
-            bits |= at[i];
-    return bits <= 1 && memcmp(at + r->shared.len, zeros, 8 * (size_t)(4096 - r->shared.len)) == 0;
-}
-
-static bool sheds(void) { return (b0.shared.state == 2 && now < b0.shared.open_until) || (b0.shared.state == 1 && b0.shared.inflight >= b0.config.trials); }
-static uint64_t delay(void) { return b0.shared.state == 2 ? b0.shared.open_until - now : 0; }
-
-/* A failure that meets number 5. */
-static bool full(void)
-{
-    uint64_t cutoff = now > b0.config.period_ms ? now - b0.config.period_ms : 0;
-    return b0.shared.state == 0 && b0.config.kind == 3 && b0.shared.len == 4096 && held[0] >= cutoff;
-}
-
-static bool over_bounds(const PudvirezWait *w) { return w->deadline > UINT64_C(1) << 63 || w->seen > BOUND || w->due > (UINT64_C(1) << 63) + w->seen; }
-static bool ended(const PudvirezWait *w) { return w->phase != 1 && w->phase != 2; }
-static bool late(const PudvirezTurn *t) { return t->clock > BOUND || t->duration > BOUND || t->pause > BOUND || t->postponed_before > BOUND || t->postponed_after > BOUND; }
-
-/* ---- findings */
-
-enum { BUILD, ADMIT_AS, SETTLE, ABORT_AS, PERMIT_SUCCESS, PERMIT_FAILURE, PERMIT_DROPPED, PERMIT_CANCEL, RESET, RECORD_MANUAL, RELEASE_TRAIT_PROBE, TRY_ADMIT, ACQUIRE_COST, RESERVE, REFUND, FINISH_ALL,
-       WAIT_START, WAIT_TURN, WAIT_RUN, WAIT_DROP, STILL_ADMITS, PEEK, AVAILABLE, BOARD, IS_SOUND, FUNCTIONS };
-static const char *const names[FUNCTIONS] = { "build", "admit_as", "settle", "abort_as", "permit_success", "permit_failure", "permit_dropped", "permit_cancel", "reset", "record_manual", "release_trait_probe",
-       "try_admit", "acquire_cost", "reserve", "refund", "finish_all", "wait_start", "wait_turn", "wait_run", "wait_drop", "still_admits", "peek", "available", "board", "is_sound" };
-static uint64_t counts[FUNCTIONS][12], several, fives, findings, round_number;
-static bool met_several;
-
-static void expect(bool holds, int f, const char *what, uint64_t got, uint64_t want)
-{
-    if (holds)
-        return;
-    if (++findings <= 20)
-        printf("FINDING in round %llu, %s: %s (%llu, expected %llu)\n", (unsigned long long)round_number, names[f], what, (unsigned long long)got, (unsigned long long)want);
-}
-
-static bool same_record(const PudvirezBreaker *x, const PudvirezBreaker *y)
-{
-    const PudvirezConfig *c = &x->config, *d = &y->config;
-    const PudvirezShared *s = &x->shared, *t = &y->shared;
-    return c->kind == d->kind && c->limit == d->limit && c->ratio_bits == d->ratio_bits && c->min_calls == d->min_calls && c->period_ms == d->period_ms && c->cooldown_ms == d->cooldown_ms
-           && c->trials == d->trials && c->required == d->required && s->state == t->state && s->generation == t->generation && s->run == t->run && s->inflight == t->inflight
-           && s->trait_probes == t->trait_probes && s->successes == t->successes && s->open_until == t->open_until && s->len == t->len;
-}
-
-static bool same_pending(const PudvirezPending *x, const PudvirezPending *y)
-{
-    const PudvirezWait *v = &x->wait, *w = &y->wait;
-    return v->phase == w->phase && v->limited == w->limited && v->deadline == w->deadline && v->seen == w->seen && v->due == w->due && v->zeros == w->zeros
-           && x->ticket.generation == y->ticket.generation && x->ticket.probe == y->ticket.probe;
-}
-
-/* The first of 3, 4, 11, 1, 2 that is met, or 0; notes whether several are. */
-static uint32_t first(bool c3, bool c4, bool c11, bool c1, bool c2)
-{
-    met_several = c3 + c4 + c11 + c1 + c2 > 1;
-    return c3 ? 3 : c4 ? 4 : c11 ? 11 : c1 ? 1 : c2 ? 2 : 0;
-}
-
-/* ---- a round */
+static PudvirezTicket draw_ticket(void) { return (PudvirezTicket){ chance(3) ? word() : b->shared.generation, flag(f, PROBE) }; }
 
 static PudvirezSetting draw_setting(void)
 {
@@ -320,26 +276,156 @@ static PudvirezSetting draw_setting(void)
     return s;
 }
 
-/* A run beside its turns one by one, on copies. */
-static PudvirezWaited one_by_one(const uint64_t *turns, size_t numbers, uint64_t limit, uint32_t capacity, PudvirezBreaker *record, PudvirezPending *pending)
+/* ---- findings */
+
+static uint64_t counts[FUNCTIONS][12], several, fives, findings, round_number;
+
+static void expect(bool holds, const char *what, uint64_t got, uint64_t want)
 {
-    PudvirezWaited told = { .number = 10 };
-    uint64_t taken = 0;
-    for (size_t at = 0; at < numbers && taken < limit; at += 8) {
-        PudvirezTurn t = { turns[at], turns[at + 1], turns[at + 2], turns[at + 3], turns[at + 4], turns[at + 5], turns[at + 6], turns[at + 7] };
-        told = pudvirez_wait_turn(record, copied, 4096, pending, t, now, capacity);
-        bool refused = told.number == 11 || told.number == 1;
-        taken += !refused;
-        if (told.number != 0 || told.v1 == 0)
-            break;
-        told = (PudvirezWaited){ .number = 10 };
-    }
-    told.taken = taken;
-    return told;
+    if (holds)
+        return;
+    if (++findings <= 20)
+        printf("FINDING in round %llu, %s: %s (%llu, expected %llu)\n", (unsigned long long)round_number, names[f], what, (unsigned long long)got, (unsigned long long)want);
 }
 
-static void one_round(void)
+static bool same_record(const PudvirezBreaker *x, const PudvirezBreaker *y)
 {
+    const PudvirezConfig *c = &x->config, *d = &y->config;
+    const PudvirezShared *s = &x->shared, *t = &y->shared;
+    return c->kind == d->kind && c->limit == d->limit && c->ratio_bits == d->ratio_bits && c->min_calls == d->min_calls && c->period_ms == d->period_ms && c->cooldown_ms == d->cooldown_ms
+           && c->trials == d->trials && c->required == d->required && s->state == t->state && s->generation == t->generation && s->run == t->run && s->counts.inflight == t->counts.inflight
+           && s->counts.trait_probes == t->counts.trait_probes && s->counts.successes == t->counts.successes && s->open_until == t->open_until && s->len == t->len;
+}
+
+static bool same_wait(const PudvirezWait *v, const PudvirezWait *w)
+{
+    return v->phase == w->phase && v->limited == w->limited && v->deadline == w->deadline && v->seen == w->seen && v->due == w->due && v->zeros == w->zeros;
+}
+
+/* ---- a round */
+
+static Model model;
+
+static Answer plain(PudvirezTold t) { return (Answer){ .number = t.number, .v1 = t.v1, .v2 = t.v2, .v3 = t.v3 }; }
+
+/* A call on the model and on the archive: what is expected, and what was told. */
+typedef struct {
+    Answer want, got;
+} Both;
+
+/* The five arrays of a batch, mostly of one count. */
+static Both finish_all(void)
+{
+    size_t k = below(5);
+    void *at[5];
+    Exact *from[5] = { generation_buffers, probe_buffers, settle_buffers, mark_buffers, answer_buffers };
+    uint64_t expected[64];
+    Batch x;
+    for (int i = 0; i < 5; i++) {
+        size_t m = chance(30) ? below(5) : k;
+        x.counts[i] = call_counts[m];
+        at[i] = pick(from[i][m]);
+    }
+    for (size_t i = 0; i < x.counts[0]; i++)
+        ((uint64_t *)at[0])[i] = chance(3) ? word() : b->shared.generation + below(3);
+    static const int slot[4] = { 0, PROBE, THIRD, MARK };
+    for (int j = 1; j < 4; j++)
+        for (size_t i = 0; i < x.counts[j]; i++)
+            ((uint8_t *)at[j])[i] = flag(f, slot[j]);
+    uint64_t *answers = at[4];
+    for (size_t i = 0; i < x.counts[4]; i++)
+        expected[i] = answers[i] = word();
+    x.generations = at[0], x.probes = at[1], x.settles = at[2], x.marks = at[3], x.answers = expected;
+    Both both = { .want = model_finish_all(&model, now, &x) };
+    both.got = plain(pudvirez_finish_all(b, list, places, now, at[0], x.counts[0], at[1], x.counts[1], at[2], x.counts[2], at[3], x.counts[3], answers, x.counts[4]));
+    for (size_t i = 0; i < x.counts[4]; i++) {
+        expect(answers[i] == expected[i], "an answer", answers[i], expected[i]);
+        fives += both.got.number == PUDVIREZ_TOLD_OK && answers[i] == PUDVIREZ_TOLD_FULL;
+    }
+    return both;
+}
+
+static Both run(uint32_t capacity)
+{
+    size_t k = below(7), numbers = turn_counts[k];
+    uint64_t *turns = pick(turn_buffers[k]), limit = coin() ? below(25) : word();
+    for (size_t i = 0; i + 8 <= numbers; i += 8) {
+        PudvirezTurn turn = draw_turn();
+        if (coin())
+            turn.kind = PUDVIREZ_REPLY_RETRY;
+        memcpy(turns + i, &turn, sizeof turn);
+    }
+    for (size_t i = numbers / 8 * 8; i < numbers; i++)
+        turns[i] = word();
+    Answer want = model_wait_run(&model, turns, numbers, limit, now, capacity);
+    return (Both){ want, pudvirez_wait_run(b, list, places, p, turns, numbers, limit, now, capacity) };
+}
+
+#define BOTH(on_model, on_archive) (Both){ on_model, on_archive }
+#define TOLD(on_model, on_archive) BOTH(on_model, plain(on_archive))
+
+static Both wait_call(void)
+{
+    const uint32_t capacity = half();
+    const uint64_t clock = chance(9) ? word() : nanos(), timeout = chance(9) ? BOUND + below(3) - 1 : nanos();
+    const PudvirezTurn turn = draw_turn();
+    switch (f) {
+    case WAIT_START: {
+        const uint8_t limited = flag(f, MARK);
+        return BOTH(model_wait_start(&model, now, clock, limited != 0, timeout), pudvirez_wait_start(b, list, places, p, now, clock, limited, timeout));
+    }
+    case WAIT_TURN: return BOTH(model_wait_turn(&model, &turn, now, capacity), pudvirez_wait_turn(b, list, places, p, turn, now, capacity));
+    case WAIT_RUN: return run(capacity);
+    default: return BOTH(model_wait_drop(&model), pudvirez_wait_drop(b, list, places, p));
+    }
+}
+
+/* The calls with a ticket or a flag. */
+static Both ticket_call(void)
+{
+    const PudvirezTicket t = draw_ticket();
+    const uint8_t mark = flag(f, MARK);
+    switch (f) {
+    case ADMIT_AS: return TOLD(model_admit(&model, now, mark != 0), pudvirez_admit_as(b, list, places, now, mark));
+    case SETTLE: return TOLD(model_settle(&model, now, t, mark != 0), pudvirez_settle(b, list, places, now, t, mark));
+    case ABORT_AS: return TOLD(model_abort(&model, t, mark != 0), pudvirez_abort_as(b, list, places, t, mark));
+    case PERMIT_SUCCESS: return TOLD(model_settle(&model, now, t, true), pudvirez_permit_success(b, list, places, now, t));
+    case PERMIT_FAILURE: return TOLD(model_settle(&model, now, t, false), pudvirez_permit_failure(b, list, places, now, t));
+    case PERMIT_DROPPED: return TOLD(model_settle(&model, now, t, false), pudvirez_permit_dropped(b, list, places, now, t));
+    case PERMIT_CANCEL: return TOLD(model_cancel(&model, t), pudvirez_permit_cancel(b, list, places, t));
+    case RECORD_MANUAL: return TOLD(model_manual(&model, now, mark != 0), pudvirez_record_manual(b, list, places, now, mark));
+    default: return TOLD(model_still_admits(&model, now, t), pudvirez_still_admits(b, list, places, now, t));
+    }
+}
+
+static Both other_call(void)
+{
+    const uint8_t kind = chance(6) ? (uint8_t)word() : (uint8_t)(1 + below(3)), reserved = (uint8_t)(kind - 1);
+    const uint64_t ms = word();
+    const uint32_t number = half();
+    const PudvirezSetting setting = draw_setting();
+    switch (f) {
+    case BUILD: return TOLD(model_build(&model, &setting), pudvirez_build(b, list, places, setting));
+    case RESET: return TOLD(model_reset(&model), pudvirez_reset(b, list, places));
+    case RELEASE_TRAIT_PROBE: return TOLD(model_refund(&model, 0), pudvirez_release_trait_probe(b, list, places));
+    case TRY_ADMIT: return TOLD(model_try_admit(&model, now, kind, number), pudvirez_try_admit(b, list, places, now, kind, ms, number));
+    case ACQUIRE_COST: return TOLD(model_acquire_cost(&model, now, kind, ms), pudvirez_acquire_cost(b, list, places, now, kind, ms));
+    case RESERVE: return TOLD(model_reserve(&model, now, reserved, ms), pudvirez_reserve(b, list, places, now, reserved, ms));
+    case REFUND: return TOLD(model_refund(&model, number), pudvirez_refund(b, list, places, number));
+    case PEEK: return TOLD(model_peek(&model, now, kind, ms), pudvirez_peek(b, list, places, now, kind, ms));
+    case AVAILABLE: return TOLD(model_available(&model, now, kind, number), pudvirez_available(b, list, places, now, kind, ms, number));
+    case BOARD: return TOLD(model_board(&model), pudvirez_board(b, list, places));
+    default: {
+        Answer want = { .number = model_sound(&model) ? PUDVIREZ_TOLD_OK : PUDVIREZ_TOLD_UNSOUND };
+        return BOTH(want, { .number = pudvirez_is_sound(b, list, places) ? PUDVIREZ_TOLD_OK : PUDVIREZ_TOLD_UNSOUND });
+    }
+    }
+}
+
+/* What is lent to one call. */
+static void draw(void)
+{
+    f = (int)below(FUNCTIONS);
     use_guarded = coin();
     size_t which = chance(10) ? 1 + below(4) : 0;
     places = place_counts[which];
@@ -355,217 +441,52 @@ static void one_round(void)
             damage();
     }
     draw_pending();
-    b0 = *b;
-    p0 = *p;
-    memcpy(held, list, 8 * places);
+    model.breaker = *b;
+    model.pending = *p;
+    model.places = places;
+    memcpy(model.list, list, 8 * places);
+    met_several = false;
+}
 
-    const int f = (int)below(FUNCTIONS);
-    const bool c3 = places != 4096, c4 = !sound_record(b) || (!c3 && !sound_list(b, list)), sound_before = !c3 && !c4;
-    const uint8_t kind = chance(6) ? (uint8_t)word() : (uint8_t)(1 + below(3));
-    const bool unknown = kind < 1 || kind > 3, mark = coin();
-    const uint64_t inner_ms = word();
-    const uint32_t capacity = half();
-    const PudvirezTicket ticket = draw_ticket();
-    const bool present = ticket.generation == b0.shared.generation;
-    PudvirezTold t = { 0, 0, 0 };
-    PudvirezWaited w = { 0, 0, 0, 0, 0 };
-    bool waited = false, reads = false, moved_wait = false;
-    uint32_t want = first(c3, c4, false, false, false);
-
-#define CALL(refused) (want = want != 0 ? want : (refused))
-    switch (f) {
-    case BUILD: {
-        PudvirezSetting s = draw_setting();
-        bool many = (s.kind == 2 || s.kind == 3) && s.limit > 4096;
-        want = first(c3, s.kind < 1 || s.kind > 3, false, s.cooldown_nanos >= 1000000000 || (s.kind == 3 && s.period_nanos >= 1000000000), many);
-        t = pudvirez_build(b, list, places, s);
-        if (want == 0) {
-            expect(memcmp(list, zeros, 8 * places) == 0, f, "a place that isn't 0", 1, 0);
-            PudvirezShared *x = &b->shared;
-            expect(x->state == 0 && x->generation == 0 && x->run == 0 && x->inflight == 0 && x->trait_probes == 0 && x->successes == 0 && x->open_until == 0 && x->len == 0, f, "a record that isn't fresh", 1, 0);
-        }
-        break;
-    }
-    case ADMIT_AS:
-        CALL(sheds() ? 6 : 0);
-        t = pudvirez_admit_as(b, list, places, now, mark);
-        break;
-    case SETTLE:
-        CALL(!mark && present && full() ? 5 : 0);
-        t = pudvirez_settle(b, list, places, now, ticket, mark);
-        break;
-    case ABORT_AS: t = pudvirez_abort_as(b, list, places, ticket, mark); break;
-    case PERMIT_SUCCESS: t = pudvirez_permit_success(b, list, places, now, ticket); break;
-    case PERMIT_FAILURE:
-    case PERMIT_DROPPED:
-        CALL(present && full() ? 5 : 0);
-        t = f == PERMIT_FAILURE ? pudvirez_permit_failure(b, list, places, now, ticket) : pudvirez_permit_dropped(b, list, places, now, ticket);
-        break;
-    case PERMIT_CANCEL:
-        t = pudvirez_permit_cancel(b, list, places, ticket);
-        expect(t.number != 0 || (t.v1 == 1 && t.v2 == 0), f, "v1", t.v1, 1);
-        break;
-    case RESET: t = pudvirez_reset(b, list, places); break;
-    case RECORD_MANUAL:
-        CALL(!mark && full() ? 5 : 0);
-        t = pudvirez_record_manual(b, list, places, now, mark);
-        break;
-    case RELEASE_TRAIT_PROBE: t = pudvirez_release_trait_probe(b, list, places); break;
-    case TRY_ADMIT:
-        want = first(c3, c4, unknown, false, false);
-        CALL(sheds() ? 6 : kind == 2 ? 7 : kind == 3 ? 8 : 0);
-        t = pudvirez_try_admit(b, list, places, now, kind, inner_ms, capacity);
-        expect(t.number != 8 || (t.v1 == 1 && t.v2 == capacity), f, "v2", t.v2, capacity);
-        break;
-    case ACQUIRE_COST:
-        want = first(c3, c4, unknown, false, false);
-        t = pudvirez_acquire_cost(b, list, places, now, kind, inner_ms);
-        break;
-    case RESERVE:
-        t = pudvirez_reserve(b, list, places, now, (uint8_t)(kind - 1), inner_ms);
-        want = first(c3, c4, (uint8_t)(kind - 1) > 1, false, false);
-        break;
-    case REFUND:
-        t = pudvirez_refund(b, list, places, capacity);
-        expect(t.number != 0 || (t.v1 == capacity && t.v2 == 0), f, "v1", t.v1, capacity);
-        break;
-    case FINISH_ALL: {
-        size_t n[5], k = below(5);
-        void *at[5];
-        Exact *from[5] = { generation_buffers, probe_buffers, settle_buffers, mark_buffers, answer_buffers };
-        bool differ = false;
-        uint64_t answers0[64];
-        for (int i = 0; i < 5; i++) {
-            size_t m = chance(30) ? below(5) : k;
-            n[i] = call_counts[m];
-            at[i] = pick(from[i][m]);
-            differ |= n[i] != n[0];
-        }
-        for (size_t i = 0; i < n[0]; i++)
-            ((uint64_t *)at[0])[i] = chance(3) ? word() : b0.shared.generation + below(3);
-        for (int j = 1; j < 4; j++)
-            for (size_t i = 0; i < n[j]; i++)
-                ((bool *)at[j])[i] = coin();
-        for (size_t i = 0; i < n[4]; i++)
-            answers0[i] = ((uint64_t *)at[4])[i] = word();
-        met_several |= differ && c4;
-        if (differ)
-            want = 3;
-        t = pudvirez_finish_all(b, list, places, now, at[0], n[0], at[1], n[1], at[2], n[2], at[3], n[3], at[4], n[4]);
-        for (size_t i = 0; i < n[4]; i++) {
-            uint64_t a = ((uint64_t *)at[4])[i];
-            expect(t.number == 0 ? a == 0 || a == 5 : a == answers0[i], f, "an answer", a, answers0[i]);
-            fives += t.number == 0 && a == 5;
-        }
-        break;
-    }
-    case WAIT_START: {
-        waited = true;
-        uint64_t clock = chance(9) ? word() : nanos(), timeout = chance(9) ? BOUND + below(3) - 1 : nanos();
-        want = first(c3, c4, false, clock > BOUND || timeout > BOUND, false);
-        CALL(sheds() ? 6 : 0);
-        moved_wait = want == 0;
-        w = pudvirez_wait_start(b, list, places, p, now, clock, mark, timeout);
-        break;
-    }
-    case WAIT_TURN: {
-        waited = true;
-        PudvirezTurn turn = draw_turn();
-        want = first(c3, c4, turn.kind < 1 || turn.kind > 3 || ended(&p->wait), over_bounds(&p->wait) || late(&turn), false);
-        w = pudvirez_wait_turn(b, list, places, p, turn, now, capacity);
-        moved_wait = want == 0;
-        CALL(w.number == 6 || w.number == 8 || w.number == 9 ? w.number : 0);
-        break;
-    }
-    case WAIT_RUN: {
-        waited = true;
-        size_t k = below(7), numbers = turn_counts[k];
-        uint64_t *turns = pick(turn_buffers[k]), limit = coin() ? below(25) : word();
-        for (size_t i = 0; i + 8 <= numbers; i += 8) {
-            PudvirezTurn turn = draw_turn();
-            if (coin())
-                turn.kind = 2;
-            memcpy(turns + i, &turn, sizeof turn);
-        }
-        for (size_t i = numbers / 8 * 8; i < numbers; i++)
-            turns[i] = word();
-        bool looks = numbers >= 8 && limit > 0;
-        want = first(c3 || numbers % 8 != 0, c4, ended(&p->wait) || (looks && (turns[3] < 1 || turns[3] > 3)), over_bounds(&p->wait), false);
-        w = pudvirez_wait_run(b, list, places, p, turns, numbers, limit, now, capacity);
-        moved_wait = want == 0;
-        if (want == 0) {
-            PudvirezBreaker record = b0;
-            PudvirezPending pending = p0;
-            memcpy(copied, held, 8 * 4096);
-            PudvirezWaited o = one_by_one(turns, numbers, limit, capacity, &record, &pending);
-            expect(w.taken == o.taken, f, "turns taken", w.taken, o.taken);
-            expect(w.v1 == o.v1 && w.v2 == o.v2 && w.v3 == o.v3, f, "values of a run", w.v1, o.v1);
-            expect(same_record(b, &record) && same_pending(p, &pending) && memcmp(list, copied, 8 * 4096) == 0, f, "what a run left", 1, 0);
-            want = o.number;
-        } else
-            expect(w.taken == 0, f, "turns taken", w.taken, 0);
-        break;
-    }
-    case WAIT_DROP:
-        waited = true;
-        want = first(c3, c4, ended(&p->wait), over_bounds(&p->wait), false);
-        moved_wait = want == 0;
-        w = pudvirez_wait_drop(b, list, places, p);
-        expect(w.number != 0 || w.v1 == (p0.wait.phase == 2), f, "v1", w.v1, p0.wait.phase == 2);
-        break;
-    case STILL_ADMITS:
-        reads = true;
-        CALL(!present && b0.shared.state != 0 ? 6 : 0);
-        t = pudvirez_still_admits(b, list, places, now, ticket);
-        expect(t.number != 6 || t.v1 == (b0.shared.state == 2 && b0.shared.open_until > now ? b0.shared.open_until - now : 0), f, "v1", t.v1, b0.shared.open_until);
-        break;
-    case PEEK:
-        reads = true;
-        want = first(c3, c4, unknown, false, false);
-        t = pudvirez_peek(b, list, places, now, kind, inner_ms);
-        break;
-    case AVAILABLE:
-        reads = true;
-        want = first(c3, c4, unknown, false, false);
-        t = pudvirez_available(b, list, places, now, kind, inner_ms, capacity);
-        expect(t.number != 0 || t.v1 == (sheds() || kind != 1 ? 0 : capacity), f, "v1", t.v1, capacity);
-        break;
-    case BOARD:
-        reads = true;
-        t = pudvirez_board(b, list, places);
-        expect(t.v1 <= 1000, f, "v1", t.v1, 1000);
-        break;
-    default:
-        reads = true;
-        want = pudvirez_is_sound(b, list, places) ? 0 : 4;
-        expect((want == 0) == sound_before, f, "soundness", want == 0, sound_before);
-        t.number = want;
-    }
-
-    if (waited)
-        t = (PudvirezTold){ w.number, w.v1, w.v2 };
-    const uint32_t n = t.number;
-    expect(n == want, f, "the number", n, want);
-    expect(n < 12, f, "no number of the table", n, 11);
-    counts[f][n < 12 ? n : 0] += 1;
+static void one_round(void)
+{
+    draw();
+    const bool tickets = has_flag[f][MARK] || has_flag[f][PROBE];
+    const Both both = f == FINISH_ALL ? finish_all() : f >= WAIT_START && f <= WAIT_DROP ? wait_call() : tickets ? ticket_call() : other_call();
+    const Answer got = both.got, want = both.want;
+    expect(got.number == want.number, "the number", got.number, want.number);
+    expect(got.v1 == want.v1, "v1", got.v1, want.v1);
+    expect(got.v2 == want.v2, "v2", got.v2, want.v2);
+    expect(got.v3 == want.v3, "v3", got.v3, want.v3);
+    expect(got.v4 == want.v4, "v4", got.v4, want.v4);
+    expect(got.taken == want.taken, "turns taken", got.taken, want.taken);
+    expect(same_record(b, &model.breaker), "the record", 1, 0);
+    expect(memcmp(list, model.list, 8 * places) == 0, "a place", 1, 0);
+    expect(same_wait(&p->wait, &model.pending.wait), "the wait", 1, 0);
+    expect(p->ticket.generation == model.pending.ticket.generation, "the generation of the wait's ticket", p->ticket.generation, model.pending.ticket.generation);
+    expect(p->ticket.probe == model.pending.ticket.probe, "the probe byte of the wait's ticket", p->ticket.probe, model.pending.ticket.probe);
+    const bool sound = model_sound(&model);
+    expect(pudvirez_is_sound(b, list, places) == sound, "soundness after it", !sound, sound);
+    if (got.number == PUDVIREZ_TOLD_OK || (f != BUILD && got.number > PUDVIREZ_TOLD_UNSOUND))
+        expect(sound, "not sound after it", 0, 1);
+    counts[f][got.number < 12 ? got.number : 0] += 1;
     several += met_several;
-    const bool refused = (n >= 1 && n <= 5) || n == 11;
-    const bool admission = f == ADMIT_AS || f == TRY_ADMIT || f == WAIT_START;
-    if (refused)
-        expect(t.v1 == 0 && t.v2 == 0 && w.v3 == 0, f, "a value beside a refusal", t.v1, 0);
-    if (n == 6 && admission)
-        expect(t.v1 == delay() && t.v2 == 0, f, "the delay", t.v1, delay());
-    if (refused || reads || n == 10 || (n == 6 && admission)) {
-        expect(same_record(b, &b0), f, "the record moved", 1, 0);
-        expect(memcmp(list, held, 8 * places) == 0, f, "a place moved", 1, 0);
-    } else if (f != IS_SOUND) {
-        expect(pudvirez_is_sound(b, list, places), f, "not sound after it", 0, 1);
-        expect(sound_record(b) && sound_list(b, list), f, "not sound after it, computed here", 0, 1);
-    }
-    if (!moved_wait)
-        expect(same_pending(p, &p0), f, "the wait moved", 1, 0);
-    else if (n == 0 || n == 6 || n == 8 || n == 9)
-        expect(!over_bounds(&p->wait), f, "a wait over its bounds", 1, 0);
+}
+
+/* Every flag must have been every byte. */
+static void all_bytes(void)
+{
+    int all = 0, whole = 0;
+    for (f = 0; f < FUNCTIONS; f++)
+        for (int slot = 0; slot < SLOTS; slot++) {
+            int bytes = 0;
+            for (int byte = 0; byte < 256; byte++)
+                bytes += handed[f][slot][byte] != 0;
+            all += has_flag[f][slot];
+            whole += bytes == 256;
+            expect(!has_flag[f][slot] || bytes == 256, "bytes that a flag was", (uint64_t)bytes, 256);
+        }
+    printf("%d of %d flags were every byte\n", whole, all);
 }
 
 int main(int argc, char **argv)
@@ -582,12 +503,13 @@ int main(int argc, char **argv)
     printf("%-20s", "told");
     for (int n = 0; n < 12; n++)
         printf(" %7d", n);
-    for (int f = 0; f < FUNCTIONS; f++) {
+    for (f = 0; f < FUNCTIONS; f++) {
         printf("\n%-20s", names[f]);
         for (int n = 0; n < 12; n++)
             printf(counts[f][n] == 0 ? "       -" : " %7llu", (unsigned long long)counts[f][n]);
     }
     printf("\nin batches %llu calls were told 5\n", (unsigned long long)fives);
+    all_bytes();
     printf("%llu rounds of seed %s, %llu of them with several causes at once; %llu findings\n", (unsigned long long)rounds, argv[2], (unsigned long long)several, (unsigned long long)findings);
     return findings == 0 ? 0 : 1;
 }

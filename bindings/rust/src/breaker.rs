@@ -5,9 +5,10 @@ use std::sync::{Mutex, MutexGuard, PoisonError};
 use crate::builder::CircuitBreakerBuilder;
 use crate::clock::{Clock, SystemClock};
 use crate::decision::Decision;
+use crate::error::ThrottleError;
+use crate::ffi::state;
 use crate::owned::Owned;
-use crate::permit::Permit;
-use crate::refused::Refused;
+use crate::permit::{Permit, SlotGuard};
 
 /// The state of a breaker, as a snapshot.
 #[derive(Debug, Clone, Copy, PartialEq, Eq, Hash)]
@@ -20,6 +21,17 @@ pub enum BreakerState {
     Open,
 }
 
+impl BreakerState {
+    /// The state of this code, in a sound record.
+    pub(crate) fn of(code: u8) -> Self {
+        match code {
+            state::CLOSED => Self::Closed,
+            state::HALF_OPEN => Self::HalfOpen,
+            _ => Self::Open,
+        }
+    }
+}
+
 /// A circuit breaker timed by the clock `C`. Threads share it by reference: one lock guards it, and
 /// each call is one step under that lock.
 ///
@@ -30,7 +42,7 @@ pub enum BreakerState {
 ///
 /// ```
 /// use std::time::Duration;
-/// use pudvirez::{BreakerState, CircuitBreaker, Decision, ManualClock, Refused, Trip};
+/// use pudvirez::{BreakerState, CircuitBreaker, Decision, ManualClock, ThrottleError, Trip};
 ///
 /// let clock = ManualClock::new(0);
 /// let breaker = CircuitBreaker::builder()
@@ -42,12 +54,12 @@ pub enum BreakerState {
 ///
 /// clock.set(400);
 /// let shed = breaker.try_acquire(Decision::Acquired).unwrap_err();
-/// assert_eq!(shed, Refused::CircuitOpen { retry_after: Duration::from_millis(600) });
+/// assert_eq!(shed, ThrottleError::CircuitOpen { retry_after: Duration::from_millis(600) });
 ///
 /// clock.set(1000);
 /// breaker.try_acquire(Decision::Acquired)?.success();
 /// assert_eq!(breaker.state(), BreakerState::Closed);
-/// # Ok::<(), Refused>(())
+/// # Ok::<(), ThrottleError>(())
 /// ```
 pub struct CircuitBreaker<C: Clock = SystemClock> {
     pub(crate) owned: Mutex<Owned>,
@@ -58,7 +70,7 @@ pub struct CircuitBreaker<C: Clock = SystemClock> {
 impl CircuitBreaker<SystemClock> {
     /// Starts building a breaker.
     pub fn builder() -> CircuitBreakerBuilder {
-        CircuitBreakerBuilder::default()
+        CircuitBreakerBuilder::new()
     }
 }
 
@@ -67,22 +79,19 @@ impl<C: Clock> CircuitBreaker<C> {
     /// [`Open`](BreakerState::Open) until the next admission.
     #[must_use]
     pub fn state(&self) -> BreakerState {
-        match self.lock().record.shared.state {
-            0 => BreakerState::Closed,
-            1 => BreakerState::HalfOpen,
-            _ => BreakerState::Open,
-        }
+        BreakerState::of(self.lock().record.shared.state)
     }
 
     /// Admits a call without waiting, given the reply of the inner limiter to a request of 1 unit.
     ///
     /// A breaker that sheds has no use for an [`Acquired`](Decision::Acquired) unit: after
-    /// [`Refused::CircuitOpen`] give it back to the inner limiter.
+    /// [`ThrottleError::CircuitOpen`] give it back to the inner limiter. With
+    /// [`try_acquire_with`](Self::try_acquire_with) there is none to give back.
     ///
     /// # Errors
     ///
-    /// - [`Refused::CircuitOpen`] where the breaker sheds, with the delay.
-    /// - [`Refused::InnerRetry`] and [`Refused::CostExceedsCapacity`] where the breaker would admit
+    /// - [`ThrottleError::CircuitOpen`] where the breaker sheds, with the delay.
+    /// - [`ThrottleError::InnerRetry`] and [`ThrottleError::CostExceedsCapacity`] where the breaker would admit
     ///   but the reply is not `Acquired`. The admission has been given back; a move from open to
     ///   half-open stays.
     ///
@@ -90,26 +99,70 @@ impl<C: Clock> CircuitBreaker<C> {
     ///
     /// ```
     /// use std::time::Duration;
-    /// use pudvirez::{CircuitBreaker, Decision, ManualClock, Refused};
+    /// use pudvirez::{CircuitBreaker, Decision, ManualClock, ThrottleError};
     ///
     /// let breaker = CircuitBreaker::builder().build(ManualClock::new(0))?;
     /// let retry = Decision::Retry { after: Duration::from_millis(5) };
-    /// assert_eq!(breaker.try_acquire(retry).unwrap_err(), Refused::InnerRetry);
-    /// # Ok::<(), Refused>(())
+    /// assert_eq!(breaker.try_acquire(retry).unwrap_err(), ThrottleError::InnerRetry);
+    /// # Ok::<(), ThrottleError>(())
     /// ```
-    pub fn try_acquire(&self, inner: Decision) -> Result<Permit<'_, C>, Refused> {
+    pub fn try_acquire(&self, inner: Decision) -> Result<Permit<'_, C>, ThrottleError> {
         let now_ms = self.now_ms();
         let ticket = self.lock().try_admit(now_ms, inner)?;
         Ok(Permit::new(self, ticket))
+    }
+
+    /// Admits a call without waiting, and asks the inner limiter for 1 unit only if the breaker admits:
+    /// a shed takes no unit. The breaker isn't locked while it is asked.
+    ///
+    /// # Errors
+    ///
+    /// As [`try_acquire`](Self::try_acquire). The admission has been given back if the limiter refused,
+    /// and also if `ask` panics.
+    ///
+    /// # Examples
+    ///
+    /// ```
+    /// use std::time::Duration;
+    /// use pudvirez::{CircuitBreaker, Decision, ManualClock, ThrottleError, Trip};
+    ///
+    /// let breaker = CircuitBreaker::builder().trip(Trip::Consecutive(1)).build(ManualClock::new(0))?;
+    /// let mut units = 1;
+    /// let mut take = || match units {
+    ///     0 => Decision::Retry { after: Duration::from_millis(5) },
+    ///     _ => { units -= 1; Decision::Acquired }
+    /// };
+    /// let permit = breaker.try_acquire_with(&mut take)?;
+    /// assert_eq!(breaker.try_acquire_with(&mut take).unwrap_err(), ThrottleError::InnerRetry);
+    /// permit.failure()?;
+    ///
+    /// let shed = breaker.try_acquire_with(|| unreachable!("an open breaker does not ask"));
+    /// assert_eq!(shed.unwrap_err().number(), 6);
+    /// # Ok::<(), ThrottleError>(())
+    /// ```
+    pub fn try_acquire_with(
+        &self,
+        ask: impl FnOnce() -> Decision,
+    ) -> Result<Permit<'_, C>, ThrottleError> {
+        let now_ms = self.now_ms();
+        let ticket = self.lock().admit(now_ms)?;
+        let slot = SlotGuard::new(self, ticket);
+        match ask() {
+            Decision::Acquired => Ok(slot.into_permit()),
+            Decision::Retry { .. } => Err(ThrottleError::InnerRetry),
+            Decision::Impossible { capacity } => {
+                Err(ThrottleError::CostExceedsCapacity { cost: 1, capacity })
+            }
+        }
     }
 
     /// Whether a waiter that holds this permit of this breaker may still go.
     ///
     /// # Errors
     ///
-    /// [`Refused::CircuitOpen`] if the breaker has left the permit's spell and is not closed. The
+    /// [`ThrottleError::CircuitOpen`] if the breaker has left the permit's spell and is not closed. The
     /// delay is what is left of the cooldown, and zero in half-open.
-    pub fn still_admits(&self, permit: &Permit<'_, C>) -> Result<(), Refused> {
+    pub fn still_admits(&self, permit: &Permit<'_, C>) -> Result<(), ThrottleError> {
         let now_ms = self.now_ms();
         self.lock().still_admits(now_ms, permit.ticket)
     }
@@ -130,7 +183,7 @@ impl<C: Clock> CircuitBreaker<C> {
     ///
     /// # Errors
     ///
-    /// [`Refused::TimesFull`], as [`Permit::failure`].
+    /// [`ThrottleError::Full`], as [`Permit::failure`].
     ///
     /// # Examples
     ///
@@ -141,9 +194,9 @@ impl<C: Clock> CircuitBreaker<C> {
     /// breaker.record_failure()?;
     /// breaker.record_failure()?;
     /// assert_eq!(breaker.state(), BreakerState::Open);
-    /// # Ok::<(), pudvirez::Refused>(())
+    /// # Ok::<(), pudvirez::ThrottleError>(())
     /// ```
-    pub fn record_failure(&self) -> Result<(), Refused> {
+    pub fn record_failure(&self) -> Result<(), ThrottleError> {
         let now_ms = self.now_ms();
         self.lock().record_manual(now_ms, false)
     }
@@ -159,7 +212,7 @@ impl<C: Clock> CircuitBreaker<C> {
     /// breaker.record_failure()?;
     /// breaker.reset();
     /// assert_eq!(breaker.state(), BreakerState::Closed);
-    /// # Ok::<(), pudvirez::Refused>(())
+    /// # Ok::<(), pudvirez::ThrottleError>(())
     /// ```
     pub fn reset(&self) {
         told(self.lock().reset());
@@ -191,7 +244,7 @@ impl<C: Clock> fmt::Debug for CircuitBreaker<C> {
 }
 
 /// The answer of a call that a sound breaker never refuses.
-pub(crate) fn told<T>(answer: Result<T, Refused>) -> T {
+pub(crate) fn told<T>(answer: Result<T, ThrottleError>) -> T {
     match answer {
         Ok(value) => value,
         Err(refused) => unreachable!("a sound breaker {refused}"),

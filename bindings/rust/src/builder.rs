@@ -4,9 +4,9 @@ use std::sync::Mutex;
 
 use crate::breaker::CircuitBreaker;
 use crate::clock::Clock;
-use crate::ffi::Setting;
+use crate::error::ThrottleError;
+use crate::ffi::{policy, Setting};
 use crate::owned::Owned;
-use crate::refused::Refused;
 
 /// The condition under which a closed breaker trips open.
 #[non_exhaustive]
@@ -38,7 +38,7 @@ impl Trip {
     fn setting(self) -> Setting {
         match self {
             Self::Consecutive(n) => Setting {
-                kind: 1,
+                kind: policy::CONSECUTIVE,
                 limit: n,
                 ..Setting::default()
             },
@@ -47,14 +47,14 @@ impl Trip {
                 ratio,
                 min_calls,
             } => Setting {
-                kind: 2,
+                kind: policy::RATIO,
                 limit: window,
                 ratio,
                 min_calls,
                 ..Setting::default()
             },
             Self::Windowed { failures, period } => Setting {
-                kind: 3,
+                kind: policy::WINDOWED,
                 limit: failures,
                 period_secs: period.as_secs(),
                 period_nanos: period.subsec_nanos(),
@@ -79,7 +79,7 @@ impl Trip {
 ///     .half_open(2, 2)
 ///     .build(SystemClock::new())?;
 /// assert_eq!(breaker.state(), BreakerState::Closed);
-/// # Ok::<(), pudvirez::Refused>(())
+/// # Ok::<(), pudvirez::ThrottleError>(())
 /// ```
 #[derive(Debug, Clone, Copy, PartialEq)]
 #[must_use = "a builder does nothing until `.build(clock)`"]
@@ -92,6 +92,13 @@ pub struct CircuitBreakerBuilder {
 
 impl Default for CircuitBreakerBuilder {
     fn default() -> Self {
+        Self::new()
+    }
+}
+
+impl CircuitBreakerBuilder {
+    /// A builder with the default policy.
+    pub const fn new() -> Self {
         Self {
             trip: Trip::Consecutive(5),
             cooldown: Duration::from_secs(30),
@@ -99,9 +106,7 @@ impl Default for CircuitBreakerBuilder {
             required: 1,
         }
     }
-}
 
-impl CircuitBreakerBuilder {
     /// When the breaker trips.
     pub fn trip(mut self, trip: Trip) -> Self {
         self.trip = trip;
@@ -126,8 +131,8 @@ impl CircuitBreakerBuilder {
     ///
     /// # Errors
     ///
-    /// [`Refused::TooWide`] for a window or failures over 4,096.
-    pub fn build<C: Clock>(self, clock: C) -> Result<CircuitBreaker<C>, Refused> {
+    /// [`ThrottleError::Limit`] for a window or failures over 4,096.
+    pub fn build<C: Clock>(self, clock: C) -> Result<CircuitBreaker<C>, ThrottleError> {
         let setting = Setting {
             cooldown_secs: self.cooldown.as_secs(),
             cooldown_nanos: self.cooldown.subsec_nanos(),

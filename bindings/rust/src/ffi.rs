@@ -7,6 +7,80 @@
 /// The places of a storage: PUDVIREZ_PLACES.
 pub const PLACES: usize = 4096;
 
+/// What a call is told: PUDVIREZ_TOLD_.
+#[allow(dead_code)]
+pub mod told {
+    pub const OK: u32 = 0;
+    pub const TIME: u32 = 1;
+    pub const LIMIT: u32 = 2;
+    pub const STORAGE: u32 = 3;
+    pub const UNSOUND: u32 = 4;
+    pub const FULL: u32 = 5;
+    pub const CIRCUIT_OPEN: u32 = 6;
+    pub const INNER_RETRY: u32 = 7;
+    pub const COST_EXCEEDS_CAPACITY: u32 = 8;
+    pub const DEADLINE_EXCEEDED: u32 = 9;
+    pub const UNFINISHED: u32 = 10;
+    pub const TURN: u32 = 11;
+}
+
+/// PUDVIREZ_STATE_.
+#[allow(dead_code)]
+pub mod state {
+    pub const CLOSED: u8 = 0;
+    pub const HALF_OPEN: u8 = 1;
+    pub const OPEN: u8 = 2;
+}
+
+/// PUDVIREZ_POLICY_.
+#[allow(dead_code)]
+pub mod policy {
+    pub const CONSECUTIVE: u8 = 1;
+    pub const RATIO: u8 = 2;
+    pub const WINDOWED: u8 = 3;
+}
+
+/// PUDVIREZ_DECISION_.
+#[allow(dead_code)]
+pub mod decision {
+    pub const ACQUIRED: u8 = 1;
+    pub const RETRY: u8 = 2;
+    pub const IMPOSSIBLE: u8 = 3;
+}
+
+/// PUDVIREZ_RESERVATION_.
+#[allow(dead_code)]
+pub mod reservation {
+    pub const NONE: u8 = 0;
+    pub const WAIT: u8 = 1;
+}
+
+/// PUDVIREZ_PHASE_.
+#[allow(dead_code)]
+pub mod phase {
+    pub const ENDED: u64 = 0;
+    pub const LOOKING: u64 = 1;
+    pub const HOLDING: u64 = 2;
+}
+
+/// PUDVIREZ_REPLY_.
+#[allow(dead_code)]
+pub mod reply {
+    pub const GRANTED: u64 = 1;
+    pub const RETRY: u64 = 2;
+    pub const NEVER: u64 = 3;
+}
+
+/// PUDVIREZ_ACT_.
+#[allow(dead_code)]
+pub mod act {
+    pub const ADMITTED: u64 = 0;
+    pub const SLEEP: u64 = 1;
+    pub const SLEEP_UNLESS_RESUMED: u64 = 2;
+    pub const YIELD: u64 = 3;
+    pub const LOOK_AGAIN: u64 = 4;
+}
+
 #[repr(C)]
 #[derive(Debug, Clone, Copy, Default, PartialEq, Eq)]
 pub struct Config {
@@ -22,13 +96,19 @@ pub struct Config {
 
 #[repr(C)]
 #[derive(Debug, Clone, Copy, Default, PartialEq, Eq)]
+pub struct Counts {
+    pub inflight: u32,
+    pub trait_probes: u32,
+    pub successes: u32,
+}
+
+#[repr(C)]
+#[derive(Debug, Clone, Copy, Default, PartialEq, Eq)]
 pub struct Shared {
     pub state: u8,
     pub generation: u64,
     pub run: u32,
-    pub inflight: u32,
-    pub trait_probes: u32,
-    pub successes: u32,
+    pub counts: Counts,
     pub open_until: u64,
     pub len: u32,
 }
@@ -44,7 +124,8 @@ pub struct Breaker {
 #[derive(Debug, Clone, Copy, Default, PartialEq, Eq)]
 pub struct Ticket {
     pub generation: u64,
-    pub probe: bool,
+    /// A flag: 0 is false, any other number true.
+    pub probe: u8,
 }
 
 #[repr(C)]
@@ -53,6 +134,7 @@ pub struct Told {
     pub number: u32,
     pub v1: u64,
     pub v2: u64,
+    pub v3: u64,
 }
 
 #[repr(C)]
@@ -108,6 +190,7 @@ pub struct Waited {
     pub v1: u64,
     pub v2: u64,
     pub v3: u64,
+    pub v4: u64,
     pub taken: u64,
 }
 
@@ -126,7 +209,7 @@ unsafe extern "C" {
         list: *mut u64,
         places: usize,
         now_ms: u64,
-        via_trait: bool,
+        via_trait: u8,
     ) -> Told;
 
     pub fn pudvirez_settle(
@@ -135,7 +218,7 @@ unsafe extern "C" {
         places: usize,
         now_ms: u64,
         ticket: Ticket,
-        success: bool,
+        success: u8,
     ) -> Told;
 
     pub fn pudvirez_abort_as(
@@ -143,7 +226,7 @@ unsafe extern "C" {
         list: *mut u64,
         places: usize,
         ticket: Ticket,
-        via_trait: bool,
+        via_trait: u8,
     ) -> Told;
 
     pub fn pudvirez_permit_success(
@@ -184,7 +267,7 @@ unsafe extern "C" {
         list: *mut u64,
         places: usize,
         now_ms: u64,
-        success: bool,
+        success: u8,
     ) -> Told;
 
     pub fn pudvirez_release_trait_probe(
@@ -235,11 +318,11 @@ unsafe extern "C" {
         now_ms: u64,
         generations: *const u64,
         generation_count: usize,
-        probes: *const bool,
+        probes: *const u8,
         probe_count: usize,
-        settles: *const bool,
+        settles: *const u8,
         settle_count: usize,
-        marks: *const bool,
+        marks: *const u8,
         mark_count: usize,
         answers: *mut u64,
         answer_count: usize,
@@ -252,7 +335,7 @@ unsafe extern "C" {
         pending: *mut Pending,
         now_ms: u64,
         clock: u64,
-        limited: bool,
+        limited: u8,
         timeout: u64,
     ) -> Waited;
 

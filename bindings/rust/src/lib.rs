@@ -13,26 +13,28 @@
 //! in every order exactly when none is a failure or the successes, with the earlier ones, stay below the
 //! required number. Otherwise some order closes the breaker and another opens it.
 //!
-//! The clock, and the reply of an inner limiter, are handed in. See [`Clock`] and [`Decision`]; and
-//! [`Host`] for a call that waits, by [`acquire_waiting`](CircuitBreaker::acquire_waiting).
+//! The clock is handed in, and so is an inner limiter that stands behind the breaker: as a reply that it
+//! gave already ([`try_acquire`](CircuitBreaker::try_acquire)), as a closure that is called only where the
+//! breaker admits ([`try_acquire_with`](CircuitBreaker::try_acquire_with)), or as the [`Host`] of a call that
+//! waits ([`acquire`](CircuitBreaker::acquire)).
 #![warn(missing_docs)]
 
 mod breaker;
 mod builder;
 mod clock;
 mod decision;
+mod error;
 mod ffi;
 mod owned;
 mod permit;
-mod refused;
 mod waiting;
 
 pub use breaker::{BreakerState, CircuitBreaker};
 pub use builder::{CircuitBreakerBuilder, Trip};
 pub use clock::{Clock, ManualClock, SystemClock};
 pub use decision::Decision;
+pub use error::ThrottleError;
 pub use permit::Permit;
-pub use refused::Refused;
 pub use waiting::{Host, Reply, Waiting};
 
 // The README's lines are tested too.

@@ -3,8 +3,8 @@
 //! The calls are safe: `record` is a record and `places` as many places as are told, both are borrowed
 //! for the length of the call only, a wait beside them too, and nothing else lies in them.
 use crate::decision::Decision;
+use crate::error::{checked, checked_wait, units, ThrottleError};
 use crate::ffi::{self, Breaker, Pending, Setting, Ticket, Told, Turn, Waited};
-use crate::refused::{checked, checked_wait, Refused};
 
 #[derive(Debug, Clone, PartialEq, Eq)]
 pub(crate) struct Owned {
@@ -13,7 +13,7 @@ pub(crate) struct Owned {
 }
 
 impl Owned {
-    pub(crate) fn build(setting: Setting) -> Result<Self, Refused> {
+    pub(crate) fn build(setting: Setting) -> Result<Self, ThrottleError> {
         let mut fresh = Self {
             record: Breaker::default(),
             places: vec![0; ffi::PLACES].into_boxed_slice(),
@@ -22,32 +22,58 @@ impl Owned {
         Ok(fresh)
     }
 
-    pub(crate) fn try_admit(&mut self, now_ms: u64, inner: Decision) -> Result<Ticket, Refused> {
+    pub(crate) fn admit(&mut self, now_ms: u64) -> Result<Ticket, ThrottleError> {
+        let plain = false.into();
+        let told =
+            self.change(|b, list, n| unsafe { ffi::pudvirez_admit_as(b, list, n, now_ms, plain) })?;
+        Ok(ticket(told.v1, told.v2))
+    }
+
+    pub(crate) fn abort(&mut self, ticket: Ticket) -> Result<(), ThrottleError> {
+        let plain = false.into();
+        self.change(|b, list, n| unsafe { ffi::pudvirez_abort_as(b, list, n, ticket, plain) })?;
+        Ok(())
+    }
+
+    pub(crate) fn try_admit(
+        &mut self,
+        now_ms: u64,
+        inner: Decision,
+    ) -> Result<Ticket, ThrottleError> {
         let (kind, ms, capacity) = inner.numbers();
         let told = self.change(|b, list, n| unsafe {
             ffi::pudvirez_try_admit(b, list, n, now_ms, kind, ms, capacity)
         })?;
-        Ok(Ticket {
-            generation: told.v1,
-            probe: told.v2 == 1,
-        })
+        Ok(ticket(told.v1, told.v2))
     }
 
-    pub(crate) fn permit_success(&mut self, now_ms: u64, ticket: Ticket) -> Result<(), Refused> {
+    pub(crate) fn permit_success(
+        &mut self,
+        now_ms: u64,
+        ticket: Ticket,
+    ) -> Result<(), ThrottleError> {
         self.change(|b, list, n| unsafe {
             ffi::pudvirez_permit_success(b, list, n, now_ms, ticket)
         })?;
         Ok(())
     }
 
-    pub(crate) fn permit_failure(&mut self, now_ms: u64, ticket: Ticket) -> Result<(), Refused> {
+    pub(crate) fn permit_failure(
+        &mut self,
+        now_ms: u64,
+        ticket: Ticket,
+    ) -> Result<(), ThrottleError> {
         self.change(|b, list, n| unsafe {
             ffi::pudvirez_permit_failure(b, list, n, now_ms, ticket)
         })?;
         Ok(())
     }
 
-    pub(crate) fn permit_dropped(&mut self, now_ms: u64, ticket: Ticket) -> Result<(), Refused> {
+    pub(crate) fn permit_dropped(
+        &mut self,
+        now_ms: u64,
+        ticket: Ticket,
+    ) -> Result<(), ThrottleError> {
         self.change(|b, list, n| unsafe {
             ffi::pudvirez_permit_dropped(b, list, n, now_ms, ticket)
         })?;
@@ -55,30 +81,34 @@ impl Owned {
     }
 
     /// Answers the units to refund.
-    pub(crate) fn permit_cancel(&mut self, ticket: Ticket) -> Result<u64, Refused> {
+    pub(crate) fn permit_cancel(&mut self, ticket: Ticket) -> Result<u32, ThrottleError> {
         let told =
             self.change(|b, list, n| unsafe { ffi::pudvirez_permit_cancel(b, list, n, ticket) })?;
-        Ok(told.v1)
+        Ok(units(told.v1))
     }
 
-    pub(crate) fn record_manual(&mut self, now_ms: u64, success: bool) -> Result<(), Refused> {
+    pub(crate) fn record_manual(
+        &mut self,
+        now_ms: u64,
+        success: bool,
+    ) -> Result<(), ThrottleError> {
         self.change(|b, list, n| unsafe {
-            ffi::pudvirez_record_manual(b, list, n, now_ms, success)
+            ffi::pudvirez_record_manual(b, list, n, now_ms, success.into())
         })?;
         Ok(())
     }
 
-    pub(crate) fn reset(&mut self) -> Result<(), Refused> {
+    pub(crate) fn reset(&mut self) -> Result<(), ThrottleError> {
         self.change(|b, list, n| unsafe { ffi::pudvirez_reset(b, list, n) })?;
         Ok(())
     }
 
-    pub(crate) fn still_admits(&self, now_ms: u64, ticket: Ticket) -> Result<(), Refused> {
+    pub(crate) fn still_admits(&self, now_ms: u64, ticket: Ticket) -> Result<(), ThrottleError> {
         self.read(|b, list, n| unsafe { ffi::pudvirez_still_admits(b, list, n, now_ms, ticket) })?;
         Ok(())
     }
 
-    pub(crate) fn board(&self) -> Result<u64, Refused> {
+    pub(crate) fn board(&self) -> Result<u64, ThrottleError> {
         let told = self.read(|b, list, n| unsafe { ffi::pudvirez_board(b, list, n) })?;
         Ok(told.v1)
     }
@@ -89,11 +119,11 @@ impl Owned {
         now_ms: u64,
         clock: u64,
         timeout: Option<u64>,
-    ) -> Result<Pending, Refused> {
+    ) -> Result<Pending, ThrottleError> {
         let (limited, timeout) = (timeout.is_some(), timeout.unwrap_or(0));
         let mut pending = Pending::default();
         let told = self.wait(&mut pending, |b, list, n, p| unsafe {
-            ffi::pudvirez_wait_start(b, list, n, p, now_ms, clock, limited, timeout)
+            ffi::pudvirez_wait_start(b, list, n, p, now_ms, clock, limited.into(), timeout)
         });
         checked_wait(told)?;
         Ok(pending)
@@ -113,11 +143,11 @@ impl Owned {
     }
 
     /// Answers the units to give back.
-    pub(crate) fn wait_drop(&mut self, pending: &mut Pending) -> Result<u64, Refused> {
+    pub(crate) fn wait_drop(&mut self, pending: &mut Pending) -> Result<u32, ThrottleError> {
         let told = self.wait(pending, |b, list, n, p| unsafe {
             ffi::pudvirez_wait_drop(b, list, n, p)
         });
-        Ok(checked_wait(told)?.v1)
+        Ok(units(checked_wait(told)?.v1))
     }
 
     #[cfg(test)]
@@ -129,7 +159,7 @@ impl Owned {
     fn change(
         &mut self,
         call: impl FnOnce(*mut Breaker, *mut u64, usize) -> Told,
-    ) -> Result<Told, Refused> {
+    ) -> Result<Told, ThrottleError> {
         let count = self.places.len();
         checked(call(&mut self.record, self.places.as_mut_ptr(), count))
     }
@@ -148,7 +178,15 @@ impl Owned {
     fn read(
         &self,
         call: impl FnOnce(*const Breaker, *const u64, usize) -> Told,
-    ) -> Result<Told, Refused> {
+    ) -> Result<Told, ThrottleError> {
         checked(call(&self.record, self.places.as_ptr(), self.places.len()))
+    }
+}
+
+/// A ticket as it is told: its generation, and its probe flag of 0 or 1.
+pub(crate) fn ticket(generation: u64, flag: u64) -> Ticket {
+    Ticket {
+        generation,
+        probe: u8::from(flag == 1),
     }
 }

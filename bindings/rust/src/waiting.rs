@@ -4,9 +4,12 @@ use core::time::Duration;
 
 use crate::breaker::{told, CircuitBreaker};
 use crate::clock::Clock;
-use crate::ffi::{Pending, Ticket, Turn, Waited};
+use crate::error::{checked_wait, units, ThrottleError};
+use crate::ffi::phase::{HOLDING, LOOKING};
+use crate::ffi::reply::{GRANTED, NEVER, RETRY};
+use crate::ffi::{act, told as number, Pending, Turn, Waited};
+use crate::owned::ticket;
 use crate::permit::Permit;
-use crate::refused::{checked_wait, Refused};
 
 /// What the inner limiter replied to a waiting call that asks for 1 unit.
 #[derive(Debug, Clone, Copy, PartialEq, Eq, Hash)]
@@ -40,7 +43,7 @@ pub trait Host {
     fn capacity(&mut self) -> u32;
 
     /// Takes units back that were granted and are not used.
-    fn refund(&mut self, units: u64);
+    fn refund(&mut self, cost: u32);
 
     /// Sleeps this long.
     fn sleep(&mut self, nap: Duration);
@@ -85,8 +88,8 @@ impl<H: Host + ?Sized> Host for &mut H {
         (**self).capacity()
     }
 
-    fn refund(&mut self, units: u64) {
-        (**self).refund(units);
+    fn refund(&mut self, cost: u32) {
+        (**self).refund(cost);
     }
 
     fn sleep(&mut self, nap: Duration) {
@@ -115,26 +118,27 @@ impl<H: Host + ?Sized> Host for &mut H {
 }
 
 /// A call that was admitted and waits for the inner limiter. Dropped before its end it gives its
-/// admission back to the breaker, and a granted unit to the host.
+/// admission back to the breaker, and a granted unit to the host: also where the host, or the breaker's
+/// clock, panics in the middle of a turn.
 #[must_use = "take its turns; dropping it gives the admission back"]
 pub struct Waiting<'a, C: Clock, H: Host> {
     breaker: &'a CircuitBreaker<C>,
     host: H,
     pub(crate) pending: Pending,
+    /// A unit that the limiter granted, and no turn has been told of yet.
+    in_hand: bool,
 }
 
 impl<C: Clock> CircuitBreaker<C> {
-    /// Admits a call that waits for the inner limiter, at most for this timeout, and sees the wait
-    /// through: the thread sleeps as the host does.
+    /// Admits a call, waits until the inner limiter grants it a unit, and answers its permit: the thread
+    /// sleeps as the host does. A breaker that sheds answers at once.
     ///
     /// # Errors
     ///
-    /// - [`Refused::CircuitOpen`] where the breaker sheds, at once or when the wait is over: then the
-    ///   unit has been refunded to the host.
-    /// - [`Refused::DeadlineExceeded`] at the deadline, or at once where the reply shows that it will be
-    ///   missed. A granted unit has been refunded.
-    /// - [`Refused::CostExceedsCapacity`] for [`Reply::Never`].
-    /// - [`Refused::Nanoseconds`] for a time over 2^62 nanoseconds.
+    /// - [`ThrottleError::CircuitOpen`] where the breaker sheds, at once or when the wait is over: then
+    ///   the unit has been refunded to the host.
+    /// - [`ThrottleError::CostExceedsCapacity`] for [`Reply::Never`].
+    /// - [`ThrottleError::Time`] for a time over 2^62 nanoseconds.
     ///
     /// After each the admission has been given back; a move from open to half-open stays.
     ///
@@ -142,7 +146,7 @@ impl<C: Clock> CircuitBreaker<C> {
     ///
     /// ```
     /// use std::time::{Duration, Instant};
-    /// use pudvirez::{CircuitBreaker, Host, Refused, Reply, SystemClock};
+    /// use pudvirez::{CircuitBreaker, Host, Reply, SystemClock, ThrottleError};
     ///
     /// /// A limiter that grants one unit every 2 ms, and runs on this thread.
     /// struct Spaced { start: Instant, next: Duration }
@@ -156,41 +160,46 @@ impl<C: Clock> CircuitBreaker<C> {
     ///         Reply::Granted { after }
     ///     }
     ///     fn capacity(&mut self) -> u32 { 1 }
-    ///     fn refund(&mut self, _units: u64) { self.next -= Duration::from_millis(2); }
+    ///     fn refund(&mut self, _cost: u32) { self.next -= Duration::from_millis(2); }
     ///     fn sleep(&mut self, nap: Duration) { std::thread::sleep(nap); }
     /// }
     ///
     /// let breaker = CircuitBreaker::builder().build(SystemClock::new())?;
     /// let mut limiter = Spaced { start: Instant::now(), next: Duration::from_millis(5) };
-    /// let missed = breaker.acquire_waiting(&mut limiter, Some(Duration::ZERO)).unwrap_err();
-    /// assert_eq!(missed, Refused::DeadlineExceeded);
-    /// breaker.acquire_waiting(&mut limiter, None)?.success();
+    /// let missed = breaker.acquire_timeout(&mut limiter, Duration::ZERO).unwrap_err();
+    /// assert_eq!(missed, ThrottleError::DeadlineExceeded);
+    /// breaker.acquire(&mut limiter)?.success();
     /// assert!(limiter.start.elapsed() >= Duration::from_millis(5));
-    /// # Ok::<(), Refused>(())
+    /// # Ok::<(), ThrottleError>(())
     /// ```
-    pub fn acquire_waiting<H: Host>(
+    pub fn acquire<H: Host>(&self, host: H) -> Result<Permit<'_, C>, ThrottleError> {
+        self.admit_waiting(host, None)?.all_turns()
+    }
+
+    /// Like [`acquire`](Self::acquire), but waits at most for this timeout.
+    ///
+    /// # Errors
+    ///
+    /// As [`acquire`](Self::acquire), and [`ThrottleError::DeadlineExceeded`] at the deadline, or at once
+    /// where the reply shows that it will be missed. A granted unit has been refunded.
+    pub fn acquire_timeout<H: Host>(
         &self,
         host: H,
-        timeout: Option<Duration>,
-    ) -> Result<Permit<'_, C>, Refused> {
-        let mut waiting = self.start_waiting(host, timeout)?;
-        loop {
-            if let Some(permit) = waiting.turn()? {
-                return Ok(permit);
-            }
-        }
+        timeout: Duration,
+    ) -> Result<Permit<'_, C>, ThrottleError> {
+        self.admit_waiting(host, Some(timeout))?.all_turns()
     }
 
     /// Admits a call that is to wait for the inner limiter, and leaves its turns to the caller.
     ///
     /// # Errors
     ///
-    /// [`Refused::CircuitOpen`] where the breaker sheds, and [`Refused::Nanoseconds`]. All is as it was.
-    pub fn start_waiting<H: Host>(
+    /// [`ThrottleError::CircuitOpen`] where the breaker sheds, and [`ThrottleError::Time`]. All is as it was.
+    pub fn admit_waiting<H: Host>(
         &self,
         mut host: H,
         timeout: Option<Duration>,
-    ) -> Result<Waiting<'_, C, H>, Refused> {
+    ) -> Result<Waiting<'_, C, H>, ThrottleError> {
         let clock = nanos(host.now());
         let now_ms = self.now_ms();
         let pending = self.lock().wait_start(now_ms, clock, timeout.map(nanos))?;
@@ -198,33 +207,47 @@ impl<C: Clock> CircuitBreaker<C> {
             breaker: self,
             host,
             pending,
+            in_hand: false,
         })
     }
 }
 
 impl<'a, C: Clock, H: Host> Waiting<'a, C, H> {
+    /// Sees the wait through.
+    fn all_turns(mut self) -> Result<Permit<'a, C>, ThrottleError> {
+        loop {
+            if let Some(permit) = self.turn()? {
+                return Ok(permit);
+            }
+        }
+    }
+
     /// Takes one turn: asks the limiter or checks the grant that is held, and then sleeps or yields as
     /// the turn says. A permit if the wait is over, and nothing if it goes on.
     ///
     /// # Errors
     ///
-    /// As [`acquire_waiting`](CircuitBreaker::acquire_waiting). After [`Refused::Nanoseconds`] the wait is
-    /// as it was, and a unit that the turn's reply granted has been refunded; after the others the wait has
-    /// ended. A turn of an ended wait is refused with [`Refused::UnknownReply`], and asks for nothing.
-    pub fn turn(&mut self) -> Result<Option<Permit<'a, C>>, Refused> {
+    /// As [`acquire_timeout`](CircuitBreaker::acquire_timeout). After [`ThrottleError::Time`] the wait is as
+    /// it was, and a unit that the turn's reply granted has been refunded; after the others the wait has
+    /// ended. A turn of an ended wait is refused with [`ThrottleError::Turn`], and asks for nothing.
+    pub fn turn(&mut self) -> Result<Option<Permit<'a, C>>, ThrottleError> {
+        // of a turn that a panic cut short
+        let left = core::mem::take(&mut self.in_hand);
+        self.give_back(left.into());
         let turn = self.read();
         let capacity = self.host.capacity();
         let now_ms = self.breaker.now_ms();
-        let looked = self.pending.wait.phase == LOOKING;
         let told = self
             .breaker
             .lock()
             .wait_turn(&mut self.pending, turn, now_ms, capacity);
+        // The wait holds it from now on, or it is among what goes back.
+        let granted = core::mem::take(&mut self.in_hand);
         let back = match told.number {
-            6 => told.v2,
-            9 => told.v1,
-            1 => u64::from(looked && turn.kind == GRANTED),
-            _ => 0,
+            number::OK | number::COST_EXCEEDS_CAPACITY => 0,
+            number::CIRCUIT_OPEN => units(told.v2),
+            number::DEADLINE_EXCEEDED => units(told.v1),
+            _ => granted.into(),
         };
         self.give_back(back);
         Ok(self.follow(checked_wait(told)?))
@@ -236,7 +259,9 @@ impl<'a, C: Clock, H: Host> Waiting<'a, C, H> {
         let postponed_before = nanos(self.host.postponed());
         let clock = nanos(self.host.now());
         let (kind, duration) = if self.pending.wait.phase == LOOKING {
-            self.host.ask(self.remaining(clock)).numbers()
+            let reply = self.host.ask(self.remaining(clock));
+            self.in_hand = matches!(reply, Reply::Granted { .. });
+            reply.numbers()
         } else {
             (GRANTED, 0)
         };
@@ -270,15 +295,12 @@ impl<'a, C: Clock, H: Host> Waiting<'a, C, H> {
     fn follow(&mut self, told: Waited) -> Option<Permit<'a, C>> {
         let nap = Duration::from_nanos(told.v2);
         match told.v1 {
-            1 => self.host.sleep(nap),
-            2 => self.host.sleep_unless_resumed(nap, told.v3),
-            3 => self.host.yield_now(),
-            4 => {}
+            act::SLEEP => self.host.sleep(nap),
+            act::SLEEP_UNLESS_RESUMED => self.host.sleep_unless_resumed(nap, told.v3),
+            act::YIELD => self.host.yield_now(),
+            act::LOOK_AGAIN => {}
             _ => {
-                let ticket = Ticket {
-                    generation: told.v2,
-                    probe: told.v3 == 1,
-                };
+                let ticket = ticket(told.v2, told.v3);
                 return Some(Permit::new(self.breaker, ticket));
             }
         }
@@ -290,9 +312,9 @@ impl<'a, C: Clock, H: Host> Waiting<'a, C, H> {
         &mut self.host
     }
 
-    fn give_back(&mut self, units: u64) {
-        if units > 0 {
-            self.host.refund(units);
+    fn give_back(&mut self, cost: u32) {
+        if cost > 0 {
+            self.host.refund(cost);
         }
     }
 }
@@ -303,8 +325,10 @@ impl<C: Clock, H: Host> Drop for Waiting<'_, C, H> {
         if !matches!(self.pending.wait.phase, LOOKING | HOLDING) {
             return;
         }
-        let units = told(self.breaker.lock().wait_drop(&mut self.pending));
-        self.give_back(units);
+        // One that looks holds nothing; its turn's unit may be in hand.
+        let in_hand = core::mem::take(&mut self.in_hand);
+        let held = told(self.breaker.lock().wait_drop(&mut self.pending));
+        self.give_back(held + u32::from(in_hand));
     }
 }
 
@@ -315,13 +339,6 @@ impl<C: Clock, H: Host> fmt::Debug for Waiting<'_, C, H> {
             .finish_non_exhaustive()
     }
 }
-
-const LOOKING: u64 = 1;
-const HOLDING: u64 = 2;
-
-const GRANTED: u64 = 1;
-const RETRY: u64 = 2;
-const NEVER: u64 = 3;
 
 impl Reply {
     /// Kind and nanoseconds, as the C interface takes them.

@@ -85,7 +85,7 @@ pub fn try_admit(
 // Whether a waiter with this ticket may still go.
 // Ruled out: a shed of the present generation while Open; a delay above 0 in HalfOpen.
 pub fn still_admits(breaker: Breaker, list: &[u64], now_ms: u64, ticket: Ticket) -> Standing
-    ensures { λ r. ⌜ standingTold r ≡ asked (Calls.standing «now_ms» ticket) breaker (now (list .entry)) ⌝ }
+    ensures { λ r. ⌜ standingTold r ≡ asked (Calls.stillAdmitted «now_ms» ticket) breaker (now (list .entry)) ⌝ }
 {
     match test(breaker, list) {
         Tested::Refused(r) => Standing::Refused(r),

@@ -99,8 +99,8 @@ abbrev pub verdictOf : Verdict → Standing
 verdictOf admits = Standing·is.Admits
 verdictOf (refuses ms) = Standing·is.Shed (delayOf ms)
 
-abbrev pub standing : ℕ → Ticket → Settings → State → Told
-standing reading t s st = standingTold (verdictOf (stillAdmits reading t st))
+abbrev pub stillAdmitted : ℕ → Ticket → Settings → State → Told
+stillAdmitted reading t s st = standingTold (verdictOf (stillAdmits reading t st))
 
 -- ---- finishing
 

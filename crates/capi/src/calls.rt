@@ -1,15 +1,16 @@
 // The breaker's own calls for C. One that is refused leaves all as it was.
 ghost use mathlib.Core.Path.{_≡_};
 ghost use mathlib.Core.Bool.{true};
+ghost use Rattle.error.specs.Choice.{flagOf};
 ghost use Rattle.breaker.specs.Record.{HalfOpen, sound};
 ghost use Rattle.breaker.specs.Rules as Rules;
 ghost use Rattle.breaker.specs.Calls as Calls;
 ghost use Rattle.breaker.specs.Calls.{onSound, asked};
 ghost use Rattle.breaker.specs.Orders.{FinishingOrders};
 ghost use Rattle.breaker.specs.Batch.{slices, finishedAll};
-ghost use Rattle.crossing.specs.Crossing.{packed, crossing, crossed, crossings, crossedAll, known, decisionBy, onReply, builtBy};
+ghost use Rattle.crossing.specs.Crossing.{packed, crossing, crossed, crossings, crossedAll, ticketBy, known, decisionBy, onReply, builtBy};
 use breaker::Breaker;
-use breaker::Ticket;
+use crossing::PlainTicket;
 use crossing::Setting;
 use crossing::Told;
 
@@ -20,7 +21,7 @@ use crossing::Told;
 pub extern "C" fn pudvirez_build(breaker: &mut Breaker, list: &mut [u64], setting: Setting) -> Told
     ensures { λ r. ⌜ crossing r (now (breaker .exit)) (now (list .exit)) ≡ crossed (builtBy setting (now (breaker .entry)) (now (list .entry))) ⌝ }
 {
-    let s = crossing::build(*breaker, list, setting);
+    let s = plain::build(*breaker, list, setting);
     *breaker = s.breaker;
     s.answer
 }
@@ -32,11 +33,11 @@ pub extern "C" fn pudvirez_admit_as(
     breaker: &mut Breaker,
     list: &mut [u64],
     now_ms: u64,
-    via_trait: bool,
+    via_trait: u8,
 ) -> Told
-    ensures { λ r. ⌜ crossing r (now (breaker .exit)) (now (list .exit)) ≡ crossed (onSound (Calls.admission «via_trait» «now_ms») (now (breaker .entry)) (now (list .entry))) ⌝ }
+    ensures { λ r. ⌜ crossing r (now (breaker .exit)) (now (list .exit)) ≡ crossed (onSound (Calls.admission (flagOf «via_trait») «now_ms») (now (breaker .entry)) (now (list .entry))) ⌝ }
 {
-    let s = crossing::admit_as(*breaker, list, now_ms, via_trait);
+    let s = plain::admit_as(*breaker, list, now_ms, via_trait);
     *breaker = s.breaker;
     s.answer
 }
@@ -54,7 +55,7 @@ pub extern "C" fn pudvirez_try_admit(
 ) -> Told
     ensures { λ r. ⌜ crossing r (now (breaker .exit)) (now (list .exit)) ≡ crossed (onReply (known «inner_kind») (Calls.tryAdmit (decisionBy «inner_kind» «inner_ms») capacity «now_ms») (now (breaker .entry)) (now (list .entry))) ⌝ }
 {
-    let s = crossing::try_admit(*breaker, list, now_ms, inner_kind, inner_ms, capacity);
+    let s = plain::try_admit(*breaker, list, now_ms, inner_kind, inner_ms, capacity);
     *breaker = s.breaker;
     s.answer
 }
@@ -66,12 +67,12 @@ pub extern "C" fn pudvirez_settle(
     breaker: &mut Breaker,
     list: &mut [u64],
     now_ms: u64,
-    ticket: Ticket,
-    success: bool,
+    ticket: PlainTicket,
+    success: u8,
 ) -> Told
-    ensures { λ r. ⌜ crossing r (now (breaker .exit)) (now (list .exit)) ≡ crossed (onSound (Calls.settle «now_ms» ticket success) (now (breaker .entry)) (now (list .entry))) ⌝ }
+    ensures { λ r. ⌜ crossing r (now (breaker .exit)) (now (list .exit)) ≡ crossed (onSound (Calls.settle «now_ms» (ticketBy ticket) (flagOf success)) (now (breaker .entry)) (now (list .entry))) ⌝ }
 {
-    let s = crossing::settle(*breaker, list, now_ms, ticket, success);
+    let s = plain::settle(*breaker, list, now_ms, ticket, success);
     *breaker = s.breaker;
     s.answer
 }
@@ -82,12 +83,12 @@ pub extern "C" fn pudvirez_settle(
 pub extern "C" fn pudvirez_abort_as(
     breaker: &mut Breaker,
     list: &mut [u64],
-    ticket: Ticket,
-    via_trait: bool,
+    ticket: PlainTicket,
+    via_trait: u8,
 ) -> Told
-    ensures { λ r. ⌜ crossing r (now (breaker .exit)) (now (list .exit)) ≡ crossed (onSound (Calls.abortAs ticket «via_trait») (now (breaker .entry)) (now (list .entry))) ⌝ }
+    ensures { λ r. ⌜ crossing r (now (breaker .exit)) (now (list .exit)) ≡ crossed (onSound (Calls.abortAs (ticketBy ticket) (flagOf «via_trait»)) (now (breaker .entry)) (now (list .entry))) ⌝ }
 {
-    let s = crossing::abort_as(*breaker, list, ticket, via_trait);
+    let s = plain::abort_as(*breaker, list, ticket, via_trait);
     *breaker = s.breaker;
     s.answer
 }
@@ -98,7 +99,7 @@ pub extern "C" fn pudvirez_abort_as(
 pub extern "C" fn pudvirez_reset(breaker: &mut Breaker, list: &mut [u64]) -> Told
     ensures { λ r. ⌜ crossing r (now (breaker .exit)) (now (list .exit)) ≡ crossed (onSound (λ s st. Rules.reset st) (now (breaker .entry)) (now (list .entry))) ⌝ }
 {
-    let s = crossing::reset(*breaker, list);
+    let s = plain::reset(*breaker, list);
     *breaker = s.breaker;
     s.answer
 }
@@ -110,11 +111,11 @@ pub extern "C" fn pudvirez_record_manual(
     breaker: &mut Breaker,
     list: &mut [u64],
     now_ms: u64,
-    success: bool,
+    success: u8,
 ) -> Told
-    ensures { λ r. ⌜ crossing r (now (breaker .exit)) (now (list .exit)) ≡ crossed (onSound (λ s st. Rules.manual s «now_ms» success st) (now (breaker .entry)) (now (list .entry))) ⌝ }
+    ensures { λ r. ⌜ crossing r (now (breaker .exit)) (now (list .exit)) ≡ crossed (onSound (λ s st. Rules.manual s «now_ms» (flagOf success) st) (now (breaker .entry)) (now (list .entry))) ⌝ }
 {
-    let s = crossing::record_manual(*breaker, list, now_ms, success);
+    let s = plain::record_manual(*breaker, list, now_ms, success);
     *breaker = s.breaker;
     s.answer
 }
@@ -125,7 +126,7 @@ pub extern "C" fn pudvirez_record_manual(
 pub extern "C" fn pudvirez_release_trait_probe(breaker: &mut Breaker, list: &mut [u64]) -> Told
     ensures { λ r. ⌜ crossing r (now (breaker .exit)) (now (list .exit)) ≡ crossed (onSound (λ s st. Rules.done (Rules.released st)) (now (breaker .entry)) (now (list .entry))) ⌝ }
 {
-    let s = crossing::release_trait_probe(*breaker, list);
+    let s = plain::release_trait_probe(*breaker, list);
     *breaker = s.breaker;
     s.answer
 }
@@ -148,7 +149,7 @@ pub extern "C" fn pudvirez_finish_all(
     ensures { λ r. ⌜ crossings (crossing r (now (breaker .exit)) (now (list .exit))) (now (answers .exit)) ≡ crossedAll (finishedAll «now_ms» (slices (now (generations .entry)) (now (probes .entry)) (now (settles .entry)) (now (marks .entry))) (now (breaker .entry)) (now (list .entry)) (now (answers .entry))) ⌝ }
     ensures orders { λ _. ⌜ (sound (now (breaker .entry)) (now (list .entry)) ≡ true → now (breaker .entry) .shared .state ≡ HalfOpen → FinishingOrders «now_ms» (now (breaker .entry)) (now (list .entry))) ⌝ }
 {
-    let s = crossing::finish_all(
+    let s = plain::finish_all(
         *breaker,
         list,
         now_ms,
@@ -169,11 +170,11 @@ pub extern "C" fn pudvirez_still_admits(
     breaker: &Breaker,
     list: &[u64],
     now_ms: u64,
-    ticket: Ticket,
+    ticket: PlainTicket,
 ) -> Told
-    ensures { λ r. ⌜ r ≡ packed (asked (Calls.standing «now_ms» ticket) (now (breaker .entry)) (now (list .entry))) ⌝ }
+    ensures { λ r. ⌜ r ≡ packed (asked (Calls.stillAdmitted «now_ms» (ticketBy ticket)) (now (breaker .entry)) (now (list .entry))) ⌝ }
 {
-    crossing::still_admits(*breaker, list, now_ms, ticket)
+    plain::still_admits(*breaker, list, now_ms, ticket)
 }
 
 // The board figure: failures in a thousand calls of the Ratio list.
@@ -182,7 +183,7 @@ pub extern "C" fn pudvirez_still_admits(
 pub extern "C" fn pudvirez_board(breaker: &Breaker, list: &[u64]) -> Told
     ensures { λ r. ⌜ r ≡ packed (asked Calls.board (now (breaker .entry)) (now (list .entry))) ⌝ }
 {
-    crossing::board(*breaker, list)
+    plain::board(*breaker, list)
 }
 
 // Whether record and storage are sound: what every call tests.

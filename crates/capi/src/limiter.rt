@@ -18,7 +18,7 @@ pub extern "C" fn pudvirez_acquire_cost(
 ) -> Told
     ensures { λ r. ⌜ crossing r (now (breaker .exit)) (now (list .exit)) ≡ crossed (onReply (known «inner_kind») (Calls.acquireCost (decisionBy «inner_kind» «inner_ms») «now_ms») (now (breaker .entry)) (now (list .entry))) ⌝ }
 {
-    let s = crossing::acquire_cost(*breaker, list, now_ms, inner_kind, inner_ms);
+    let s = plain::acquire_cost(*breaker, list, now_ms, inner_kind, inner_ms);
     *breaker = s.breaker;
     s.answer
 }
@@ -35,7 +35,7 @@ pub extern "C" fn pudvirez_reserve(
 ) -> Told
     ensures { λ r. ⌜ crossing r (now (breaker .exit)) (now (list .exit)) ≡ crossed (onReply (reservable «inner_kind») (Calls.reserve (reservationBy «inner_kind» «inner_ms») «now_ms») (now (breaker .entry)) (now (list .entry))) ⌝ }
 {
-    let s = crossing::reserve(*breaker, list, now_ms, inner_kind, inner_ms);
+    let s = plain::reserve(*breaker, list, now_ms, inner_kind, inner_ms);
     *breaker = s.breaker;
     s.answer
 }
@@ -46,7 +46,7 @@ pub extern "C" fn pudvirez_reserve(
 pub extern "C" fn pudvirez_refund(breaker: &mut Breaker, list: &mut [u64], cost: u32) -> Told
     ensures { λ r. ⌜ crossing r (now (breaker .exit)) (now (list .exit)) ≡ crossed (onSound (Calls.refund cost) (now (breaker .entry)) (now (list .entry))) ⌝ }
 {
-    let s = crossing::refund(*breaker, list, cost);
+    let s = plain::refund(*breaker, list, cost);
     *breaker = s.breaker;
     s.answer
 }
@@ -63,7 +63,7 @@ pub extern "C" fn pudvirez_peek(
 ) -> Told
     ensures { λ r. ⌜ r ≡ packed (askedReply (known «inner_kind») (Calls.peek (decisionBy «inner_kind» «inner_ms») «now_ms») (now (breaker .entry)) (now (list .entry))) ⌝ }
 {
-    crossing::peek(*breaker, list, now_ms, inner_kind, inner_ms)
+    plain::peek(*breaker, list, now_ms, inner_kind, inner_ms)
 }
 
 // The inner limiter's count, if its peek of 0 was acquired and the breaker would admit. An unknown reply is told 11, after 3 and 4.
@@ -79,5 +79,5 @@ pub extern "C" fn pudvirez_available(
 ) -> Told
     ensures { λ r. ⌜ r ≡ packed (askedReply (known «inner_kind») (Calls.available (decisionBy «inner_kind» «inner_ms») count «now_ms») (now (breaker .entry)) (now (list .entry))) ⌝ }
 {
-    crossing::available(*breaker, list, now_ms, inner_kind, inner_ms, count)
+    plain::available(*breaker, list, now_ms, inner_kind, inner_ms, count)
 }

@@ -3,9 +3,9 @@ ghost use mathlib.Core.Path.{_≡_};
 ghost use mathlib.Core.Bool.{true, false};
 ghost use Rattle.breaker.specs.Calls as Calls;
 ghost use Rattle.breaker.specs.Calls.{onSound};
-ghost use Rattle.crossing.specs.Crossing.{crossing, crossed};
+ghost use Rattle.crossing.specs.Crossing.{crossing, crossed, ticketBy};
 use breaker::Breaker;
-use breaker::Ticket;
+use crossing::PlainTicket;
 use crossing::Told;
 
 // Settles a permit as a success.
@@ -15,11 +15,11 @@ pub extern "C" fn pudvirez_permit_success(
     breaker: &mut Breaker,
     list: &mut [u64],
     now_ms: u64,
-    ticket: Ticket,
+    ticket: PlainTicket,
 ) -> Told
-    ensures { λ r. ⌜ crossing r (now (breaker .exit)) (now (list .exit)) ≡ crossed (onSound (Calls.settle «now_ms» ticket true) (now (breaker .entry)) (now (list .entry))) ⌝ }
+    ensures { λ r. ⌜ crossing r (now (breaker .exit)) (now (list .exit)) ≡ crossed (onSound (Calls.settle «now_ms» (ticketBy ticket) true) (now (breaker .entry)) (now (list .entry))) ⌝ }
 {
-    let s = crossing::permit_success(*breaker, list, now_ms, ticket);
+    let s = plain::permit_success(*breaker, list, now_ms, ticket);
     *breaker = s.breaker;
     s.answer
 }
@@ -31,11 +31,11 @@ pub extern "C" fn pudvirez_permit_failure(
     breaker: &mut Breaker,
     list: &mut [u64],
     now_ms: u64,
-    ticket: Ticket,
+    ticket: PlainTicket,
 ) -> Told
-    ensures { λ r. ⌜ crossing r (now (breaker .exit)) (now (list .exit)) ≡ crossed (onSound (Calls.settle «now_ms» ticket false) (now (breaker .entry)) (now (list .entry))) ⌝ }
+    ensures { λ r. ⌜ crossing r (now (breaker .exit)) (now (list .exit)) ≡ crossed (onSound (Calls.settle «now_ms» (ticketBy ticket) false) (now (breaker .entry)) (now (list .entry))) ⌝ }
 {
-    let s = crossing::permit_failure(*breaker, list, now_ms, ticket);
+    let s = plain::permit_failure(*breaker, list, now_ms, ticket);
     *breaker = s.breaker;
     s.answer
 }
@@ -47,11 +47,11 @@ pub extern "C" fn pudvirez_permit_dropped(
     breaker: &mut Breaker,
     list: &mut [u64],
     now_ms: u64,
-    ticket: Ticket,
+    ticket: PlainTicket,
 ) -> Told
-    ensures { λ r. ⌜ crossing r (now (breaker .exit)) (now (list .exit)) ≡ crossed (onSound (Calls.settle «now_ms» ticket false) (now (breaker .entry)) (now (list .entry))) ⌝ }
+    ensures { λ r. ⌜ crossing r (now (breaker .exit)) (now (list .exit)) ≡ crossed (onSound (Calls.settle «now_ms» (ticketBy ticket) false) (now (breaker .entry)) (now (list .entry))) ⌝ }
 {
-    let s = crossing::permit_dropped(*breaker, list, now_ms, ticket);
+    let s = plain::permit_dropped(*breaker, list, now_ms, ticket);
     *breaker = s.breaker;
     s.answer
 }
@@ -62,11 +62,11 @@ pub extern "C" fn pudvirez_permit_dropped(
 pub extern "C" fn pudvirez_permit_cancel(
     breaker: &mut Breaker,
     list: &mut [u64],
-    ticket: Ticket,
+    ticket: PlainTicket,
 ) -> Told
-    ensures { λ r. ⌜ crossing r (now (breaker .exit)) (now (list .exit)) ≡ crossed (onSound (Calls.cancel ticket) (now (breaker .entry)) (now (list .entry))) ⌝ }
+    ensures { λ r. ⌜ crossing r (now (breaker .exit)) (now (list .exit)) ≡ crossed (onSound (Calls.cancel (ticketBy ticket)) (now (breaker .entry)) (now (list .entry))) ⌝ }
 {
-    let s = crossing::permit_cancel(*breaker, list, ticket);
+    let s = plain::permit_cancel(*breaker, list, ticket);
     *breaker = s.breaker;
     s.answer
 }

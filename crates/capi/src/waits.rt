@@ -1,11 +1,12 @@
 // The calls of a wait before a breaker, for C. One that is refused leaves the breaker as it was.
 ghost use mathlib.Core.Path.{_≡_};
+ghost use Rattle.error.specs.Choice.{flagOf};
 ghost use Rattle.waiting.specs.Calls as Waits;
-ghost use Rattle.crossing.specs.Waits.{crossingWait, crossedWait, crossedRun};
+ghost use Rattle.crossing.specs.Waits.{crossingWait, pendingBy, crossedStart, crossedTurn, crossedRun};
 use breaker::Breaker;
+use crossing::PlainPending;
 use crossing::Waited;
 use wait::Observed;
-use waiting::Pending;
 
 // Admits a call, and begins its wait for the inner limiter: 0, or 6 with the delay. A time over 2^62 is told 1, before the admission.
 // Ruled out: a probe taken and not stored; a shed that changes the pending wait.
@@ -13,15 +14,15 @@ use waiting::Pending;
 pub extern "C" fn pudvirez_wait_start(
     breaker: &mut Breaker,
     list: &mut [u64],
-    pending: &mut Pending,
+    pending: &mut PlainPending,
     now_ms: u64,
     clock: u64,
-    limited: bool,
+    limited: u8,
     timeout: u64,
 ) -> Waited
-    ensures { λ r. ⌜ crossingWait r (now (breaker .exit)) (now (list .exit)) (now (pending .exit)) ≡ crossedWait (Waits.starting «now_ms» clock limited timeout (now (breaker .entry)) (now (list .entry)) (now (pending .entry))) ⌝ }
+    ensures { λ r. ⌜ crossingWait r (now (breaker .exit)) (now (list .exit)) (now (pending .exit)) ≡ crossedStart (Waits.starting «now_ms» clock (flagOf limited) timeout (now (breaker .entry)) (now (list .entry)) (pendingBy (now (pending .entry)))) (now (pending .entry)) ⌝ }
 {
-    let s = crossing::wait_start(*breaker, list, *pending, now_ms, clock, limited, timeout);
+    let s = plain::wait_start(*breaker, list, *pending, now_ms, clock, limited, timeout);
     *breaker = s.breaker;
     *pending = s.pending;
     s.answer
@@ -33,14 +34,14 @@ pub extern "C" fn pudvirez_wait_start(
 pub extern "C" fn pudvirez_wait_turn(
     breaker: &mut Breaker,
     list: &mut [u64],
-    pending: &mut Pending,
+    pending: &mut PlainPending,
     turn: Observed,
     now_ms: u64,
     capacity: u32,
 ) -> Waited
-    ensures { λ r. ⌜ crossingWait r (now (breaker .exit)) (now (list .exit)) (now (pending .exit)) ≡ crossedWait (Waits.turning turn «now_ms» capacity (now (breaker .entry)) (now (list .entry)) (now (pending .entry))) ⌝ }
+    ensures { λ r. ⌜ crossingWait r (now (breaker .exit)) (now (list .exit)) (now (pending .exit)) ≡ crossedTurn (Waits.turning turn «now_ms» capacity (now (breaker .entry)) (now (list .entry)) (pendingBy (now (pending .entry)))) (now (pending .entry)) ⌝ }
 {
-    let s = crossing::wait_turn(*breaker, list, *pending, turn, now_ms, capacity);
+    let s = plain::wait_turn(*breaker, list, *pending, turn, now_ms, capacity);
     *breaker = s.breaker;
     *pending = s.pending;
     s.answer
@@ -52,15 +53,15 @@ pub extern "C" fn pudvirez_wait_turn(
 pub extern "C" fn pudvirez_wait_run(
     breaker: &mut Breaker,
     list: &mut [u64],
-    pending: &mut Pending,
+    pending: &mut PlainPending,
     turns: &[u64],
     limit: u64,
     now_ms: u64,
     capacity: u32,
 ) -> Waited
-    ensures { λ r. ⌜ crossingWait r (now (breaker .exit)) (now (list .exit)) (now (pending .exit)) ≡ crossedRun (Waits.running (now (turns .entry)) limit «now_ms» capacity (now (breaker .entry)) (now (list .entry)) (now (pending .entry))) ⌝ }
+    ensures { λ r. ⌜ crossingWait r (now (breaker .exit)) (now (list .exit)) (now (pending .exit)) ≡ crossedRun (Waits.running (now (turns .entry)) limit «now_ms» capacity (now (breaker .entry)) (now (list .entry)) (pendingBy (now (pending .entry)))) (now (pending .entry)) ⌝ }
 {
-    let s = crossing::wait_run(*breaker, list, *pending, turns, limit, now_ms, capacity);
+    let s = plain::wait_run(*breaker, list, *pending, turns, limit, now_ms, capacity);
     *breaker = s.breaker;
     *pending = s.pending;
     s.answer
@@ -72,11 +73,11 @@ pub extern "C" fn pudvirez_wait_run(
 pub extern "C" fn pudvirez_wait_drop(
     breaker: &mut Breaker,
     list: &mut [u64],
-    pending: &mut Pending,
+    pending: &mut PlainPending,
 ) -> Waited
-    ensures { λ r. ⌜ crossingWait r (now (breaker .exit)) (now (list .exit)) (now (pending .exit)) ≡ crossedWait (Waits.leaving (now (breaker .entry)) (now (list .entry)) (now (pending .entry))) ⌝ }
+    ensures { λ r. ⌜ crossingWait r (now (breaker .exit)) (now (list .exit)) (now (pending .exit)) ≡ crossedTurn (Waits.leaving (now (breaker .entry)) (now (list .entry)) (pendingBy (now (pending .entry)))) (now (pending .entry)) ⌝ }
 {
-    let s = crossing::wait_drop(*breaker, list, *pending);
+    let s = plain::wait_drop(*breaker, list, *pending);
     *breaker = s.breaker;
     *pending = s.pending;
     s.answer

@@ -1,4 +1,4 @@
--- What a call leaves, and that packing loses nothing.
-pub mod Cross
+-- Packing loses nothing, of an answer and of a pending wait.
 pub mod Packed
 pub mod PackedWait
+pub mod Held

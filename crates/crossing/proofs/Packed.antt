@@ -1,8 +1,9 @@
--- Nothing is lost where an answer is packed: what was told is read back from the three numbers. Assumes nothing.
+-- Nothing is lost where an answer is packed: what was told is read back from the four numbers. Assumes nothing.
 use Prim.Native.Nat.{ℕ}
 use mathlib.Core.Path.{_≡_, refl, sym, ap, _∙_}
-use mathlib.Core.List.{List, [], _∷_}
+use mathlib.Core.List.{[], _∷_}
 use lib.Dec.{eqb}
+use lib.ListN.{take}
 use Rattle.error.specs.Choice.{if_then_else_}
 use Rattle.error.specs.Told.{Told as Answer, tell, numberOf, refused}
 use Rattle.error.specs.declared.Refusal.{Refusal}
@@ -29,42 +30,34 @@ use Rattle.breaker.specs.Answers.{admissionTold, finishedTold, triedTold, stand
 use Rattle.crossing.specs.declared.Told.{Told}
 use Rattle.crossing.specs.Crossing.{packed}
 
--- how many values an answer has, by its number and its first value
-pub data Width : Type 0 where
-  none one both : Width
+-- an answer, read back: `width` says how many values it has, by its number and its first value
+abbrev pub restored : (ℕ → ℕ → ℕ) → Told → Answer
+restored width t = tell (t .number) (take (width (t .number) (t .v1)) (t .v1 ∷ t .v2 ∷ t .v3 ∷ []))
 
-abbrev values : Width → ℕ → ℕ → List ℕ
-values none v w = []
-values one v w = v ∷ []
-values both v w = v ∷ w ∷ []
-
-abbrev pub restored : (ℕ → ℕ → Width) → Told → Answer
-restored width t = tell (t .number) (values (width (t .number) (t .v1)) (t .v1) (t .v2))
-
--- what is read back is known by the three numbers
-pub known-by : (width : ℕ → ℕ → Width) (s t : Answer) → restored width (packed s) ≡ s → restored width (packed t) ≡ t → packed s ≡ packed t → s ≡ t
+-- what is read back is known by the four numbers
+pub known-by : (width : ℕ → ℕ → ℕ) (s t : Answer) → restored width (packed s) ≡ s → restored width (packed t) ≡ t → packed s ≡ packed t → s ≡ t
 known-by width s t p q e = sym p ∙ ap (restored width) e ∙ q
 
 -- ---- the widths
 
-abbrev pub ticketWidth : ℕ → ℕ → Width
+abbrev pub ticketWidth : ℕ → ℕ → ℕ
 ticketWidth n v =
-    if eqb n 0 then both
-    else if eqb n 6 then one
-    else if eqb n 8 then both
-    else none
+    if eqb n 0 then 2
+    else if eqb n 6 then 1
+    else if eqb n 8 then 2
+    else 0
 
-abbrev pub delayWidth : ℕ → ℕ → Width
-delayWidth n v = if eqb n 6 then one else none
+abbrev pub delayWidth : ℕ → ℕ → ℕ
+delayWidth n v = if eqb n 6 then 1 else 0
 
-abbrev pub countWidth : ℕ → ℕ → Width
-countWidth n v = if eqb n 0 then one else none
+abbrev pub countWidth : ℕ → ℕ → ℕ
+countWidth n v = if eqb n 0 then 1 else 0
 
 -- kind 2 has a delay for a decision, and kind 1 for a reservation
-abbrev pub kindWidth : ℕ → ℕ → ℕ → Width
+abbrev pub kindWidth : ℕ → ℕ → ℕ → ℕ
 kindWidth delayed n v =
-    if eqb n 0 then (if eqb v delayed then both else one)
-    else none
+    if eqb n 0 then (if eqb v delayed then 2 else 1)
+    else 0
 
 -- ---- the eight answers
 

@@ -1,8 +1,9 @@
--- Nothing is lost where a wait's answer is packed: what was told, and the turns taken, are read back from the five numbers. Assumes nothing.
+-- Nothing is lost where a wait's answer is packed: what was told, and the turns taken, are read back from the six numbers. Assumes nothing.
 use Prim.Native.Nat.{ℕ}
 use mathlib.Core.Path.{_≡_, refl, sym, ap, _∙_}
-use mathlib.Core.List.{List, [], _∷_}
+use mathlib.Core.List.{[], _∷_}
 use lib.Dec.{eqb}
+use lib.ListN.{take}
 use Rattle.error.specs.Choice.{if_then_else_}
 use Rattle.error.specs.Told.{Told as Answer, tell}
 use Rattle.wait.specs.declared.Act.the-variants.{Sleep, SleepUnlessResumed, Yield, LookAgain}
@@ -22,46 +23,37 @@ use Rattle.crossing.specs.declared.Waited.{Waited}
 use Rattle.crossing.specs.Waits.{packedWait}
 use Rattle.crossing.proofs.Packed.{refused-back}
 
--- how many values an answer has, by its number and its first value
-pub data Width : Type 0 where
-  none one two three : Width
+-- an answer, read back: `width` says how many values it has, by its number and its first value
+abbrev pub restored : (ℕ → ℕ → ℕ) → Waited → Answer
+restored width t = tell (t .number) (take (width (t .number) (t .v1)) (t .v1 ∷ t .v2 ∷ t .v3 ∷ t .v4 ∷ []))
 
-abbrev values : Width → ℕ → ℕ → ℕ → List ℕ
-values none u v w = []
-values one u v w = u ∷ []
-values two u v w = u ∷ v ∷ []
-values three u v w = u ∷ v ∷ w ∷ []
-
-abbrev pub restored : (ℕ → ℕ → Width) → Waited → Answer
-restored width t = tell (t .number) (values (width (t .number) (t .v1)) (t .v1) (t .v2) (t .v3))
-
--- what is read back is known by the five numbers, and so are the turns taken
-pub known-by : (width : ℕ → ℕ → Width) (s t : Answer) (m n : ℕ) → restored width (packedWait s m) ≡ s → restored width (packedWait t n) ≡ t → packedWait s m ≡ packedWait t n → (s ≡ t) × (m ≡ n)
+-- what is read back is known by the six numbers, and so are the turns taken
+pub known-by : (width : ℕ → ℕ → ℕ) (s t : Answer) (m n : ℕ) → restored width (packedWait s m) ≡ s → restored width (packedWait t n) ≡ t → packedWait s m ≡ packedWait t n → (s ≡ t) × (m ≡ n)
 known-by width s t m n p q e = (sym p ∙ ap (restored width) e ∙ q, ap (λ (w : Waited). w .taken) e)
 
 -- ---- the widths
 
-abbrev pub begunWidth : ℕ → ℕ → Width
-begunWidth n v = if eqb n 6 then one else none
+abbrev pub begunWidth : ℕ → ℕ → ℕ
+begunWidth n v = if eqb n 6 then 1 else 0
 
 -- of what the host is to do, a sleep has its time, and one unless resumed its epoch too; an admission has its ticket
-abbrev pub actWidth : ℕ → Width
+abbrev pub actWidth : ℕ → ℕ
 actWidth v =
-    if eqb v 0 then three
-    else if eqb v 1 then two
-    else if eqb v 2 then three
-    else one
+    if eqb v 0 then 3
+    else if eqb v 1 then 2
+    else if eqb v 2 then 3
+    else 1
 
-abbrev pub waitWidth : ℕ → ℕ → Width
+abbrev pub waitWidth : ℕ → ℕ → ℕ
 waitWidth n v =
     if eqb n 0 then actWidth v
-    else if eqb n 6 then two
-    else if eqb n 8 then two
-    else if eqb n 9 then one
-    else none
+    else if eqb n 6 then 2
+    else if eqb n 8 then 2
+    else if eqb n 9 then 1
+    else 0
 
-abbrev pub droppedWidth : ℕ → ℕ → Width
-droppedWidth n v = if eqb n 0 then one else none
+abbrev pub droppedWidth : ℕ → ℕ → ℕ
+droppedWidth n v = if eqb n 0 then 1 else 0
 
 -- ---- the answers of a wait, whatever was taken
 

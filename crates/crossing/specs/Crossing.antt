@@ -4,12 +4,13 @@ use mathlib.Core.Bool.{Bool, not, _&&_}
 use mathlib.Core.List.{List}
 use lib.Dec.{leb, eqb}
 use lib.ListN.{length, getD}
-use Rattle.error.specs.Choice.{if_then_else_}
+use Rattle.error.specs.Choice.{if_then_else_, flagOf}
 use Rattle.error.specs.Told.{Told as Answer, refused}
 use Rattle.error.specs.declared.Refusal.the-variants.{Storage, Unsound, Turn}
 use Rattle.trip.specs.declared.Trip.{Trip}
 use Rattle.trip.specs.declared.Trip.the-variants.{Consecutive, Ratio, Windowed}
 use Rattle.trip.specs.declared.CircuitBreakerBuilder.{CircuitBreakerBuilder}
+use Rattle.breaker.specs.declared.Ticket.{Ticket}
 use Rattle.breaker.specs.declared.Breaker.{Breaker}
 use Rattle.breaker.specs.declared.Decision.{Decision}
 use Rattle.breaker.specs.declared.Decision.the-variants.{Acquired, Retry, Impossible}
@@ -22,12 +23,13 @@ use Rattle.breaker.specs.Calls.{After, after, guarded, onSound, asked, built}
 use Rattle.breaker.specs.Batch.{Batch}
 use Rattle.crossing.specs.declared.Told.{Told}
 use Rattle.crossing.specs.declared.Setting.{Setting}
+use Rattle.crossing.specs.declared.PlainTicket.{PlainTicket}
 
 -- ---- what goes out
 
 -- the number, and the values in their order, 0 where there is none; a probe flag is a value of 0 or 1
 abbrev pub packed : Answer → Told
-packed t = record { number = t .number; v1 = getD (t .values) 0 0; v2 = getD (t .values) 1 0 }
+packed t = record { number = t .number; v1 = getD (t .values) 0 0; v2 = getD (t .values) 1 0; v3 = getD (t .values) 2 0 }
 
 -- what a call leaves: what it told, the record, and every place
 pub record Crossing : Type 0 where
@@ -51,6 +53,12 @@ crossings l a = record { left = l; answers = a }
 
 unfoldable pub crossedAll : Batch → Crossings
 crossedAll x = crossings (crossed (x .left)) (x .answers)
+
+-- ---- a ticket that comes in
+
+-- "A ticket is a generation (64 bits) and a probe flag": the flag crosses as a byte, 0 false and any other number true
+abbrev pub ticketBy : PlainTicket → Ticket
+ticketBy t = record { generation = t .generation; probe = flagOf (t .probe) }
 
 -- ---- replies of the inner limiter that come in
 
@@ -97,8 +105,12 @@ builderBy x =
       «half_open_required» = x .required;
     }
 
--- making a breaker: 3, then 4 for an unknown kind, then what the builder refuses; refused it leaves all as it was
+-- what an unknown policy kind is told: 3, then 4
+abbrev pub unknownPolicy : List ℕ → Answer
+unknownPolicy s = if not (eqb (length s) 4096) then refused Storage else refused Unsound
+
+-- making a breaker: an unknown kind is refused before what the builder refuses; refused it leaves all as it was
 unfoldable pub builtBy : Setting → Breaker → List ℕ → After
 builtBy x b s =
     if known (x .kind) then built (builderBy x) b s
-    else after (if not (eqb (length s) 4096) then refused Storage else refused Unsound) b s
+    else after (unknownPolicy s) b s

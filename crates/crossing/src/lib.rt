@@ -1,38 +1,34 @@
-// What packs and unpacks for C: the structs that cross, what the numbers that come in mean, and each call by value over them, its answer as numbers.
-mod calls;
-mod limiter;
-mod permits;
+// What crosses to C: the structs of plain numbers, what those that come in mean, and each answer as such numbers.
 mod reply;
+mod settings;
 mod tell;
 mod tell_wait;
-mod waits;
+mod ticket;
 
-use breaker::Breaker;
-pub use calls::abort_as;
-pub use calls::admit_as;
-pub use calls::board;
-pub use calls::build;
-pub use calls::finish_all;
-pub use calls::record_manual;
-pub use calls::release_trait_probe;
-pub use calls::reset;
-pub use calls::settle;
-pub use calls::still_admits;
-pub use calls::try_admit;
-pub use limiter::acquire_cost;
-pub use limiter::available;
-pub use limiter::peek;
-pub use limiter::refund;
-pub use limiter::reserve;
-pub use permits::permit_cancel;
-pub use permits::permit_dropped;
-pub use permits::permit_failure;
-pub use permits::permit_success;
-use waiting::Pending;
-pub use waits::wait_drop;
-pub use waits::wait_run;
-pub use waits::wait_start;
-pub use waits::wait_turn;
+pub use reply::decision_by;
+pub use reply::is_known;
+pub use reply::is_reservable;
+pub use reply::reservation_by;
+pub use reply::tell_unknown;
+pub use settings::builder_by;
+pub use settings::tell_unknown_policy;
+pub use tell::tell_admission;
+pub use tell::tell_counted;
+pub use tell::tell_decided;
+pub use tell::tell_finished;
+pub use tell::tell_notice;
+pub use tell::tell_reserved;
+pub use tell::tell_standing;
+pub use tell::tell_tried;
+pub use tell_wait::tell_awaited;
+pub use tell_wait::tell_begun;
+pub use tell_wait::tell_course;
+pub use tell_wait::tell_dropped;
+pub use ticket::after_start;
+pub use ticket::after_turn;
+pub use ticket::pending_by;
+pub use ticket::ticket_by;
+use wait::Wait;
 
 // What a caller is told: the number of document 01's table, 0 where the call was not refused,
 // and the values of breaker's specs/Answers in their order, 0 where there is none. A probe flag is a value of 0 or 1.
@@ -41,6 +37,7 @@ pub struct Told {
     pub number: u32,
     pub v1: u64,
     pub v2: u64,
+    pub v3: u64,
 }
 
 // What a caller of a wait is told: as above, with the values of wait's and waiting's specs/Answers, and the turns that a run took.
@@ -50,6 +47,7 @@ pub struct Waited {
     pub v1: u64,
     pub v2: u64,
     pub v3: u64,
+    pub v4: u64,
     // 0 where the call is no run
     pub taken: u64,
 }
@@ -72,15 +70,17 @@ pub struct Setting {
     pub required: u32,
 }
 
-// The answer of a step, and the record after it.
-pub struct Step {
-    pub answer: Told,
-    pub breaker: Breaker,
+// A ticket: the generation it was made under, and whether it holds a trial.
+#[repr(C)]
+pub struct PlainTicket {
+    pub generation: u64,
+    // 0 is false, any other number true
+    pub probe: u8,
 }
 
-// The answer of a wait's step, and the record and the wait after it.
-pub struct WaitStep {
-    pub answer: Waited,
-    pub breaker: Breaker,
-    pub pending: Pending,
+// A wait and the ticket that was admitted for it.
+#[repr(C)]
+pub struct PlainPending {
+    pub wait: Wait,
+    pub ticket: PlainTicket,
 }

@@ -1,10 +1,9 @@
-// Plain numbers that come in, as the enums they stand for.
+// The inner limiter's replies that come in, a kind and milliseconds, as the enums they stand for.
 ghost use mathlib.Core.Path.{_≡_};
 ghost use Rattle.error.specs.Told.{refused};
 ghost use Rattle.error.specs.declared.Refusal.the-variants.{Turn};
 ghost use Rattle.breaker.specs.Calls.{guarded};
-ghost use Rattle.crossing.specs.Crossing.{packed, known, decisionBy, reservable, reservationBy, tripBy, builderBy};
-use crate::Setting;
+ghost use Rattle.crossing.specs.Crossing.{packed, known, decisionBy, reservable, reservationBy};
 use crate::Told;
 use crate::tell::tell_refusal;
 use breaker::Breaker;
@@ -14,12 +13,10 @@ use breaker::Tested;
 use breaker::delayed;
 use breaker::test;
 use error::Refusal;
-use trip::CircuitBreakerBuilder;
-use trip::Duration;
-use trip::Trip;
 
 // Whether the kind is one of 1 to 3.
-pub(crate) fn is_known(kind: u8) -> bool
+// Ruled out: a kind of 0 taken; a kind of 4 taken.
+pub fn is_known(kind: u8) -> bool
     ensures { λ r. ⌜ r ≡ known kind ⌝ }
 {
     if kind < 1 {
@@ -28,7 +25,9 @@ pub(crate) fn is_known(kind: u8) -> bool
     kind <= 3
 }
 
-pub(crate) fn decision_by(kind: u8, ms: u64) -> Decision
+// What an inner limiter replied: a kind of 1 to 3, and the milliseconds of a retry.
+// Ruled out: a retry without its milliseconds; kinds 2 and 3 swapped.
+pub fn decision_by(kind: u8, ms: u64) -> Decision
     ensures { λ r. ⌜ r ≡ decisionBy kind ms ⌝ }
 {
     if kind == 1 {
@@ -41,13 +40,16 @@ pub(crate) fn decision_by(kind: u8, ms: u64) -> Decision
 }
 
 // Whether a reservation has this kind.
-pub(crate) fn is_reservable(kind: u8) -> bool
+// Ruled out: a kind of 2 taken; a kind of 0 refused.
+pub fn is_reservable(kind: u8) -> bool
     ensures { λ r. ⌜ r ≡ reservable kind ⌝ }
 {
     kind <= 1
 }
 
-pub(crate) fn reservation_by(kind: u8, ms: u64) -> Reservation
+// What an inner limiter replied to a reservation: 1 a wait of so many milliseconds, 0 none.
+// Ruled out: a wait without its milliseconds; 0 taken for a wait.
+pub fn reservation_by(kind: u8, ms: u64) -> Reservation
     ensures { λ r. ⌜ r ≡ reservationBy kind ms ⌝ }
 {
     if kind == 1 {
@@ -57,47 +59,12 @@ pub(crate) fn reservation_by(kind: u8, ms: u64) -> Reservation
 }
 
 // What a call with an unknown reply is told: 3, 4, then 11.
-pub(crate) fn tell_unknown(breaker: Breaker, list: &[u64]) -> Told
+// Ruled out: 11 told before 3 and 4; 4 told where the breaker is sound.
+pub fn tell_unknown(breaker: Breaker, list: &[u64]) -> Told
     ensures { λ r. ⌜ r ≡ packed (guarded refused (refused Turn) breaker (now (list .entry))) ⌝ }
 {
     match test(breaker, list) {
         Tested::Refused(r) => tell_refusal(r),
         Tested::Sound => tell_refusal(Refusal::Turn),
-    }
-}
-
-fn trip_by(setting: Setting) -> Trip
-    ensures { λ r. ⌜ r ≡ tripBy setting ⌝ }
-{
-    if setting.kind == 1 {
-        return Trip::Consecutive(setting.limit);
-    }
-    if setting.kind == 2 {
-        return Trip::Ratio {
-            window: setting.limit,
-            ratio: setting.ratio,
-            min_calls: setting.min_calls,
-        };
-    }
-    Trip::Windowed {
-        failures: setting.limit,
-        period: Duration {
-            secs: setting.period_secs,
-            nanos: setting.period_nanos,
-        },
-    }
-}
-
-pub(crate) fn builder_by(setting: Setting) -> CircuitBreakerBuilder
-    ensures { λ r. ⌜ r ≡ builderBy setting ⌝ }
-{
-    CircuitBreakerBuilder {
-        trip: trip_by(setting),
-        cooldown: Duration {
-            secs: setting.cooldown_secs,
-            nanos: setting.cooldown_nanos,
-        },
-        half_open_trials: setting.trials,
-        half_open_required: setting.required,
     }
 }

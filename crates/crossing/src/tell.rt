@@ -1,10 +1,10 @@
 // Each answer as plain numbers: document 01's number, and its values with zeros for those it has not.
 ghost use mathlib.Core.Path.{_≡_};
-ghost use Rattle.error.specs.Choice.{bit};
 ghost use Rattle.error.specs.Told.{refused};
 ghost use Rattle.breaker.specs.Answers.{admissionTold, finishedTold, triedTold, standingTold, noticeTold, decidedTold, reservedTold, countedTold};
 ghost use Rattle.crossing.specs.Crossing.{packed};
 use crate::Told;
+use crate::ticket::flag;
 use breaker::Admission;
 use breaker::Counted;
 use breaker::Decided;
@@ -17,16 +17,6 @@ use breaker::Standing;
 use breaker::Tried;
 use error::Refusal;
 
-// A probe flag as a value.
-pub(crate) fn flag(probe: bool) -> u64
-    ensures { λ r. ⌜ r ≡ bit probe ⌝ }
-{
-    if probe {
-        return 1;
-    }
-    0
-}
-
 pub(crate) fn tell_refusal(refusal: Refusal) -> Told
     ensures { λ r. ⌜ r ≡ packed (refused refusal) ⌝ }
 {
@@ -34,10 +24,13 @@ pub(crate) fn tell_refusal(refusal: Refusal) -> Told
         number: error::number(refusal),
         v1: 0,
         v2: 0,
+        v3: 0,
     }
 }
 
-pub(crate) fn tell_finished(answer: Finished) -> Told
+// What came of a call that tells no more than a refusal.
+// Ruled out: number 5 told as 0; a refusal with values.
+pub fn tell_finished(answer: Finished) -> Told
     ensures { λ r. ⌜ r ≡ packed (finishedTold answer) ⌝ }
 {
     match answer {
@@ -45,58 +38,71 @@ pub(crate) fn tell_finished(answer: Finished) -> Told
             number: 0,
             v1: 0,
             v2: 0,
+            v3: 0,
         },
         Finished::Refused(r) => tell_refusal(r),
     }
 }
 
-pub(crate) fn tell_admission(answer: Admission) -> Told
+// An admission: 0 with generation and probe, or 6 with the delay.
+// Ruled out: a shed told without its delay; a probe told with a flag of 0.
+pub fn tell_admission(answer: Admission) -> Told
     ensures { λ r. ⌜ r ≡ packed (admissionTold answer) ⌝ }
 {
     match answer {
         Admission::Granted(t) => Told {
             number: 0,
             v1: t.generation,
-            v2: flag(t.probe),
+            v2: flag(t.probe) as u64,
+            v3: 0,
         },
         Admission::Shed(d) => Told {
             number: 6,
             v1: d.ms,
             v2: 0,
+            v3: 0,
         },
         Admission::Refused(r) => tell_refusal(r),
     }
 }
 
-pub(crate) fn tell_tried(answer: Tried) -> Told
+// An admission with the inner limiter's reply: as above, 7, or 8 with cost and capacity.
+// Ruled out: an inner retry told 6; cost and capacity swapped.
+pub fn tell_tried(answer: Tried) -> Told
     ensures { λ r. ⌜ r ≡ packed (triedTold answer) ⌝ }
 {
     match answer {
         Tried::Granted(t) => Told {
             number: 0,
             v1: t.generation,
-            v2: flag(t.probe),
+            v2: flag(t.probe) as u64,
+            v3: 0,
         },
         Tried::Shed(d) => Told {
             number: 6,
             v1: d.ms,
             v2: 0,
+            v3: 0,
         },
         Tried::Retry => Told {
             number: 7,
             v1: 0,
             v2: 0,
+            v3: 0,
         },
         Tried::Impossible { cost, capacity } => Told {
             number: 8,
             v1: cost as u64,
             v2: capacity as u64,
+            v3: 0,
         },
         Tried::Refused(r) => tell_refusal(r),
     }
 }
 
-pub(crate) fn tell_standing(answer: Standing) -> Told
+// Whether a waiter may still go: 0, or 6 with the delay.
+// Ruled out: a shed told 0; a delay told in v2.
+pub fn tell_standing(answer: Standing) -> Told
     ensures { λ r. ⌜ r ≡ packed (standingTold answer) ⌝ }
 {
     match answer {
@@ -104,17 +110,21 @@ pub(crate) fn tell_standing(answer: Standing) -> Told
             number: 0,
             v1: 0,
             v2: 0,
+            v3: 0,
         },
         Standing::Shed(d) => Told {
             number: 6,
             v1: d.ms,
             v2: 0,
+            v3: 0,
         },
         Standing::Refused(r) => tell_refusal(r),
     }
 }
 
-pub(crate) fn tell_notice(answer: Notice) -> Told
+// A notice to refund so much to the inner limiter.
+// Ruled out: every cost told as 1; a refusal told 0.
+pub fn tell_notice(answer: Notice) -> Told
     ensures { λ r. ⌜ r ≡ packed (noticeTold answer) ⌝ }
 {
     match answer {
@@ -122,6 +132,7 @@ pub(crate) fn tell_notice(answer: Notice) -> Told
             number: 0,
             v1: cost as u64,
             v2: 0,
+            v3: 0,
         },
         Notice::Refused(r) => tell_refusal(r),
     }
@@ -135,21 +146,26 @@ fn tell_decision(d: Decision) -> Told
             number: 0,
             v1: 1,
             v2: 0,
+            v3: 0,
         },
         Decision::Retry(delay) => Told {
             number: 0,
             v1: 2,
             v2: delay.ms,
+            v3: 0,
         },
         Decision::Impossible => Told {
             number: 0,
             v1: 3,
             v2: 0,
+            v3: 0,
         },
     }
 }
 
-pub(crate) fn tell_decided(answer: Decided) -> Told
+// The trait side's decision: its kind, and a retry's delay.
+// Ruled out: a retry told without its delay; a shed told 6.
+pub fn tell_decided(answer: Decided) -> Told
     ensures { λ r. ⌜ r ≡ packed (decidedTold answer) ⌝ }
 {
     match answer {
@@ -166,16 +182,20 @@ fn tell_reservation(w: Reservation) -> Told
             number: 0,
             v1: 1,
             v2: delay.ms,
+            v3: 0,
         },
         Reservation::Nothing => Told {
             number: 0,
             v1: 0,
             v2: 0,
+            v3: 0,
         },
     }
 }
 
-pub(crate) fn tell_reserved(answer: Reserved) -> Told
+// The trait side's reservation: 1 and the wait, or 0.
+// Ruled out: a wait told without its milliseconds; none told as a wait of 0.
+pub fn tell_reserved(answer: Reserved) -> Told
     ensures { λ r. ⌜ r ≡ packed (reservedTold answer) ⌝ }
 {
     match answer {
@@ -184,7 +204,9 @@ pub(crate) fn tell_reserved(answer: Reserved) -> Told
     }
 }
 
-pub(crate) fn tell_counted(answer: Counted) -> Told
+// A count.
+// Ruled out: a count told in v2; a refusal told as a count of 0.
+pub fn tell_counted(answer: Counted) -> Told
     ensures { λ r. ⌜ r ≡ packed (countedTold answer) ⌝ }
 {
     match answer {
@@ -192,6 +214,7 @@ pub(crate) fn tell_counted(answer: Counted) -> Told
             number: 0,
             v1: n,
             v2: 0,
+            v3: 0,
         },
         Counted::Refused(r) => tell_refusal(r),
     }

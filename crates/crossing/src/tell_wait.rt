@@ -5,7 +5,7 @@ ghost use Rattle.wait.specs.Answers.{actValues, droppedTold};
 ghost use Rattle.waiting.specs.Answers.{begunTold, completedTold, awaitedTold, courseTold};
 ghost use Rattle.crossing.specs.Waits.{packedWait};
 use crate::Waited;
-use crate::tell::flag;
+use crate::ticket::flag;
 use error::Refusal;
 use wait::Act;
 use wait::Dropped;
@@ -22,11 +22,14 @@ fn tell_refused(refusal: Refusal, taken: u64) -> Waited
         v1: 0,
         v2: 0,
         v3: 0,
+        v4: 0,
         taken,
     }
 }
 
-pub(crate) fn tell_begun(answer: Begun) -> Waited
+// How a wait begins: 0, or 6 with the delay.
+// Ruled out: a shed told 0; a refused time told 6.
+pub fn tell_begun(answer: Begun) -> Waited
     ensures { λ r. ⌜ r ≡ packedWait (begunTold answer) 0 ⌝ }
 {
     match answer {
@@ -35,6 +38,7 @@ pub(crate) fn tell_begun(answer: Begun) -> Waited
             v1: 0,
             v2: 0,
             v3: 0,
+            v4: 0,
             taken: 0,
         },
         Begun::Shed(d) => Waited {
@@ -42,6 +46,7 @@ pub(crate) fn tell_begun(answer: Begun) -> Waited
             v1: d.ms,
             v2: 0,
             v3: 0,
+            v4: 0,
             taken: 0,
         },
         Begun::Refused(r) => tell_refused(r, 0),
@@ -57,7 +62,8 @@ fn tell_completed(end: Completed, taken: u64) -> Waited
             number: 0,
             v1: 0,
             v2: t.generation,
-            v3: flag(t.probe),
+            v3: flag(t.probe) as u64,
+            v4: 0,
             taken,
         },
         Completed::Shed(d, refund) => Waited {
@@ -65,6 +71,7 @@ fn tell_completed(end: Completed, taken: u64) -> Waited
             v1: d.ms,
             v2: refund,
             v3: 0,
+            v4: 0,
             taken,
         },
         Completed::Impossible(cost, capacity) => Waited {
@@ -72,6 +79,7 @@ fn tell_completed(end: Completed, taken: u64) -> Waited
             v1: cost,
             v2: capacity,
             v3: 0,
+            v4: 0,
             taken,
         },
         Completed::Deadline(back) => Waited {
@@ -79,6 +87,7 @@ fn tell_completed(end: Completed, taken: u64) -> Waited
             v1: back,
             v2: 0,
             v3: 0,
+            v4: 0,
             taken,
         },
     }
@@ -94,6 +103,7 @@ fn tell_act(act: Act) -> Waited
             v1: 1,
             v2: nanos,
             v3: 0,
+            v4: 0,
             taken: 0,
         },
         Act::SleepUnlessResumed(nanos, epoch) => Waited {
@@ -101,6 +111,7 @@ fn tell_act(act: Act) -> Waited
             v1: 2,
             v2: nanos,
             v3: epoch,
+            v4: 0,
             taken: 0,
         },
         Act::Yield => Waited {
@@ -108,6 +119,7 @@ fn tell_act(act: Act) -> Waited
             v1: 3,
             v2: 0,
             v3: 0,
+            v4: 0,
             taken: 0,
         },
         Act::LookAgain => Waited {
@@ -115,12 +127,15 @@ fn tell_act(act: Act) -> Waited
             v1: 4,
             v2: 0,
             v3: 0,
+            v4: 0,
             taken: 0,
         },
     }
 }
 
-pub(crate) fn tell_awaited(answer: Awaited) -> Waited
+// What a turn came to: what the host is to do, an end, or a refusal.
+// Ruled out: an epoch told as the time to sleep; an admission told without its ticket.
+pub fn tell_awaited(answer: Awaited) -> Waited
     ensures { λ r. ⌜ r ≡ packedWait (awaitedTold answer) 0 ⌝ }
 {
     match answer {
@@ -130,7 +145,9 @@ pub(crate) fn tell_awaited(answer: Awaited) -> Waited
     }
 }
 
-pub(crate) fn tell_course(course: Course, taken: u64) -> Waited
+// What a run came to, after so many turns.
+// Ruled out: turns used up told as a deadline; a refused run told to have taken none.
+pub fn tell_course(course: Course, taken: u64) -> Waited
     ensures { λ r. ⌜ r ≡ packedWait (courseTold course) taken ⌝ }
 {
     match course {
@@ -140,13 +157,16 @@ pub(crate) fn tell_course(course: Course, taken: u64) -> Waited
             v1: 0,
             v2: 0,
             v3: 0,
+            v4: 0,
             taken,
         },
         Course::Refused(r) => tell_refused(r, taken),
     }
 }
 
-pub(crate) fn tell_dropped(answer: Dropped) -> Waited
+// What a drop gives back.
+// Ruled out: a held grant told as nothing to give back; an ended wait told 0.
+pub fn tell_dropped(answer: Dropped) -> Waited
     ensures { λ r. ⌜ r ≡ packedWait (droppedTold answer) 0 ⌝ }
 {
     match answer {
@@ -155,6 +175,7 @@ pub(crate) fn tell_dropped(answer: Dropped) -> Waited
             v1: n,
             v2: 0,
             v3: 0,
+            v4: 0,
             taken: 0,
         },
         Dropped::Refused(r) => tell_refused(r, 0),

@@ -339,7 +339,7 @@ pub fn is_sound(breaker: &Breaker, list: &[u64]) -> bool
 // Whether a waiter with this ticket may still go.
 // Ruled out: one that looks at the state before the generation; a delay in HalfOpen.
 pub fn still_admits(breaker: &Breaker, list: &[u64], now_ms: u64, ticket: Ticket) -> Standing
-    ensures { λ r. ⌜ standingTold r ≡ asked (Calls.standing «now_ms» ticket) (now (breaker .entry)) (now (list .entry)) ⌝ }
+    ensures { λ r. ⌜ standingTold r ≡ asked (Calls.stillAdmitted «now_ms» ticket) (now (breaker .entry)) (now (list .entry)) ⌝ }
 {
     admission::still_admits(*breaker, list, now_ms, ticket)
 }

@@ -3,7 +3,7 @@
 use throttle::plain::{Answer, Call, End};
 use throttle::scope::PLACES;
 
-use crate::convert::{own, plain_told};
+use crate::convert::{flag, own, plain_told};
 use crate::ffi::{self, Setting};
 use crate::side::{ROOM, Side};
 
@@ -16,6 +16,8 @@ pub struct Handing {
     pub kind: Option<u8>,
     /// What stands for the inner limiter's milliseconds where it has none.
     pub unread: u64,
+    /// The byte that stands for true: any but 0.
+    pub yes: u8,
 }
 
 impl Default for Handing {
@@ -24,16 +26,17 @@ impl Default for Handing {
             places: PLACES,
             kind: None,
             unread: 0,
+            yes: 1,
         }
     }
 }
 
-/// The finishing calls of a sequence, each part on its own.
+/// The finishing calls of a sequence, each part on its own; the last three are flags.
 pub struct Named<'a> {
     pub generations: &'a [u64],
-    pub probes: &'a [bool],
-    pub settles: &'a [bool],
-    pub marks: &'a [bool],
+    pub probes: &'a [u8],
+    pub settles: &'a [u8],
+    pub marks: &'a [u8],
 }
 
 impl Side {
@@ -52,29 +55,31 @@ impl Side {
     pub fn hand(&mut self, now: u64, call: &Call, how: &Handing) -> Answer {
         assert!(how.places <= ROOM);
         match call.numbers().0 {
-            1..=6 => self.plain_call(now, call, how.places),
-            7 | 9 => self.ticket_call(now, call, how.places),
+            1..=6 => self.plain_call(now, call, how),
+            7 | 9 => self.ticket_call(now, call, how),
             _ => self.inner_call(now, call, how),
         }
     }
 
-    fn plain_call(&mut self, now: u64, call: &Call, places: usize) -> Answer {
+    fn plain_call(&mut self, now: u64, call: &Call, how: &Handing) -> Answer {
         let (b, list) = (&raw mut self.breaker, self.list.as_mut_ptr());
+        let (places, flag) = (how.places, |value| flag(value, how.yes));
+        let own = |ticket| own(ticket, how.yes);
         // SAFETY: the list has so many places.
         let told = unsafe {
             match *call {
                 Call::Admit { via_trait } => {
-                    ffi::pudvirez_admit_as(b, list, places, now, via_trait)
+                    ffi::pudvirez_admit_as(b, list, places, now, flag(via_trait))
                 }
                 Call::Settle { ticket, success } => {
-                    ffi::pudvirez_settle(b, list, places, now, own(ticket), success)
+                    ffi::pudvirez_settle(b, list, places, now, own(ticket), flag(success))
                 }
                 Call::Abort { ticket, via_trait } => {
-                    ffi::pudvirez_abort_as(b, list, places, own(ticket), via_trait)
+                    ffi::pudvirez_abort_as(b, list, places, own(ticket), flag(via_trait))
                 }
                 Call::ReleaseTraitProbe => ffi::pudvirez_release_trait_probe(b, list, places),
                 Call::Record { success } => {
-                    ffi::pudvirez_record_manual(b, list, places, now, success)
+                    ffi::pudvirez_record_manual(b, list, places, now, flag(success))
                 }
                 Call::Reset => ffi::pudvirez_reset(b, list, places),
                 _ => unreachable!("not of ops 1 to 6: {call:?}"),
@@ -83,8 +88,9 @@ impl Side {
         plain_told(told)
     }
 
-    fn ticket_call(&mut self, now: u64, call: &Call, places: usize) -> Answer {
+    fn ticket_call(&mut self, now: u64, call: &Call, how: &Handing) -> Answer {
         let (b, list) = (&raw mut self.breaker, self.list.as_mut_ptr());
+        let (places, own) = (how.places, |ticket| own(ticket, how.yes));
         // SAFETY: the list has so many places.
         let told = unsafe {
             match *call {

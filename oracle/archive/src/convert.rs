@@ -4,21 +4,28 @@ use throttle::Trip;
 use throttle::plain::{self, Answer, Settings, State};
 use throttle::turns::Handed;
 
-use crate::ffi::{self, Config, Setting, Shared, Told, Turn, Waited};
+use crate::ffi::{self, Config, Counts, Setting, Shared, Told, Turn, Waited};
 
 pub fn plain_told(told: Told) -> Answer {
-    Answer::new(told.number.into(), [told.v1, told.v2, 0])
+    Answer::new(told.number.into(), [told.v1, told.v2, told.v3])
 }
 
 pub fn plain_waited(waited: Waited) -> Answer {
+    assert_eq!(waited.v4, 0, "no answer has a fourth value");
     Answer::new(waited.number.into(), [waited.v1, waited.v2, waited.v3])
 }
 
+/// A flag, where this byte is true.
 #[inline]
-pub fn own(ticket: plain::Ticket) -> ffi::Ticket {
+pub fn flag(value: bool, yes: u8) -> u8 {
+    if value { yes } else { 0 }
+}
+
+#[inline]
+pub fn own(ticket: plain::Ticket, yes: u8) -> ffi::Ticket {
     ffi::Ticket {
         generation: ticket.generation,
-        probe: ticket.probe,
+        probe: flag(ticket.probe, yes),
     }
 }
 
@@ -54,9 +61,11 @@ pub fn shared(state: &State) -> Shared {
         state: state.state,
         generation: state.generation,
         run: state.run,
-        inflight: state.inflight,
-        trait_probes: state.trait_probes,
-        successes: state.successes,
+        counts: Counts {
+            inflight: state.inflight,
+            trait_probes: state.trait_probes,
+            successes: state.successes,
+        },
         open_until: state.open_until,
         len: state.items.len() as u32,
     }
@@ -104,9 +113,9 @@ pub fn state(shared: &Shared, list: &[u64]) -> State {
         state: shared.state,
         generation: shared.generation,
         run: shared.run,
-        inflight: shared.inflight,
-        trait_probes: shared.trait_probes,
-        successes: shared.successes,
+        inflight: shared.counts.inflight,
+        trait_probes: shared.counts.trait_probes,
+        successes: shared.counts.successes,
         open_until: shared.open_until,
         items: list[..shared.len as usize].to_vec(),
     }

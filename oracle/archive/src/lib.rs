@@ -13,6 +13,6 @@ mod side;
 #[cfg(archive)]
 pub use calls::{Handing, Named};
 #[cfg(archive)]
-pub use convert::{config, own, plain_told, plain_waited, setting, shared, state};
+pub use convert::{config, flag, own, plain_told, plain_waited, setting, shared, state};
 #[cfg(archive)]
 pub use side::{ROOM, Side};

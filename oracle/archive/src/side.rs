@@ -4,7 +4,7 @@ use throttle::plain::{self, Answer, Settings, State};
 use throttle::scope::PLACES;
 use throttle::turns::{Handed, Start};
 
-use crate::convert::{config, plain_told, setting, shared, turn};
+use crate::convert::{config, flag, plain_told, setting, shared, turn};
 use crate::ffi::{self, Breaker, Pending, Waited};
 
 /// Places past the storage, which no call may touch.
@@ -16,6 +16,8 @@ pub struct Side {
     pub breaker: Breaker,
     pub list: Box<[u64; ROOM]>,
     pub pending: Pending,
+    /// The byte that stands for true in what is handed to a wait: any but 0.
+    pub yes: u8,
 }
 
 impl Default for Side {
@@ -26,6 +28,7 @@ impl Default for Side {
             breaker: Breaker::default(),
             list,
             pending: Pending::default(),
+            yes: 1,
         }
     }
 }
@@ -68,6 +71,7 @@ impl Side {
             breaker,
             list,
             pending,
+            yes: _,
         } = self;
         let used = PLACES
             - list[..PLACES]
@@ -81,10 +85,11 @@ impl Side {
 
 /// The waiting calls.
 impl Side {
+    /// After a start its probe flag, of 0 or 1, is handed on as the byte that stands for it.
     pub fn start(&mut self, start: &Start) -> Waited {
-        let list = self.list.as_mut_ptr();
+        let (list, limited) = (self.list.as_mut_ptr(), flag(start.limited, self.yes));
         // SAFETY: the list has so many places; nothing overlaps.
-        unsafe {
+        let told = unsafe {
             ffi::pudvirez_wait_start(
                 &mut self.breaker,
                 list,
@@ -92,49 +97,62 @@ impl Side {
                 &mut self.pending,
                 start.now_ms,
                 start.clock,
-                start.limited,
+                limited,
                 start.timeout,
             )
+        };
+        if told.number == ffi::told::OK {
+            let probe = &mut self.pending.ticket.probe;
+            assert!(*probe <= 1, "a start left the probe flag {probe}");
+            *probe = flag(*probe == 1, self.yes);
         }
+        told
     }
 
     pub fn turn(&mut self, handed: &Handed) -> Waited {
-        let list = self.list.as_mut_ptr();
-        // SAFETY: as for a start.
-        unsafe {
-            ffi::pudvirez_wait_turn(
-                &mut self.breaker,
-                list,
-                PLACES,
-                &mut self.pending,
-                turn(handed),
-                handed.now_ms,
-                handed.capacity,
-            )
-        }
+        self.keeping_ticket(|breaker, list, pending| {
+            // SAFETY: as for a start.
+            unsafe {
+                ffi::pudvirez_wait_turn(
+                    breaker,
+                    list,
+                    PLACES,
+                    pending,
+                    turn(handed),
+                    handed.now_ms,
+                    handed.capacity,
+                )
+            }
+        })
     }
 
     pub fn run(&mut self, turns: &[u64], limit: u64, now_ms: u64, capacity: u32) -> Waited {
-        let list = self.list.as_mut_ptr();
-        // SAFETY: as for a start, and the turns are a slice.
-        unsafe {
-            ffi::pudvirez_wait_run(
-                &mut self.breaker,
-                list,
-                PLACES,
-                &mut self.pending,
-                turns.as_ptr(),
-                turns.len(),
-                limit,
-                now_ms,
-                capacity,
-            )
-        }
+        let (first, count) = (turns.as_ptr(), turns.len());
+        self.keeping_ticket(|breaker, list, pending| {
+            // SAFETY: as for a start, and the turns are a slice.
+            unsafe {
+                ffi::pudvirez_wait_run(
+                    breaker, list, PLACES, pending, first, count, limit, now_ms, capacity,
+                )
+            }
+        })
     }
 
     pub fn drop_wait(&mut self) -> Waited {
-        let list = self.list.as_mut_ptr();
-        // SAFETY: as for a start.
-        unsafe { ffi::pudvirez_wait_drop(&mut self.breaker, list, PLACES, &mut self.pending) }
+        self.keeping_ticket(|breaker, list, pending| {
+            // SAFETY: as for a start.
+            unsafe { ffi::pudvirez_wait_drop(breaker, list, PLACES, pending) }
+        })
+    }
+
+    /// A call that must leave the ticket of its wait as it was.
+    fn keeping_ticket(
+        &mut self,
+        call: impl FnOnce(&mut Breaker, *mut u64, &mut Pending) -> Waited,
+    ) -> Waited {
+        let before = self.pending.ticket;
+        let told = call(&mut self.breaker, self.list.as_mut_ptr(), &mut self.pending);
+        assert_eq!(self.pending.ticket, before, "the ticket of a wait moved");
+        told
     }
 }

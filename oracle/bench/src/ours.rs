@@ -5,7 +5,10 @@ use throttle::scope::PLACES;
 
 use crate::task::{CALLS, Task};
 use archive::ffi::{self, Breaker};
-use archive::own;
+use archive::{flag, own};
+
+/// The byte that stands for true.
+const YES: u8 = 1;
 
 /// A record and its storage.
 pub struct Ours {
@@ -39,13 +42,15 @@ impl Ours {
         let told = unsafe {
             match call {
                 Call::Admit { via_trait } => {
-                    ffi::pudvirez_admit_as(b, list, PLACES, now, via_trait)
+                    ffi::pudvirez_admit_as(b, list, PLACES, now, flag(via_trait, YES))
                 }
                 Call::Settle { ticket, success } => {
-                    ffi::pudvirez_settle(b, list, PLACES, now, own(ticket), success)
+                    let (ticket, success) = (own(ticket, YES), flag(success, YES));
+                    ffi::pudvirez_settle(b, list, PLACES, now, ticket, success)
                 }
                 Call::Abort { ticket, via_trait } => {
-                    ffi::pudvirez_abort_as(b, list, PLACES, own(ticket), via_trait)
+                    let (ticket, via_trait) = (own(ticket, YES), flag(via_trait, YES));
+                    ffi::pudvirez_abort_as(b, list, PLACES, ticket, via_trait)
                 }
                 _ => panic!("{call:?} is not timed"),
             }
@@ -84,9 +89,9 @@ impl Ours {
             s.state.into(),
             s.generation,
             s.run.into(),
-            s.inflight.into(),
-            s.trait_probes.into(),
-            s.successes.into(),
+            s.counts.inflight.into(),
+            s.counts.trait_probes.into(),
+            s.counts.successes.into(),
             s.open_until,
             s.len.into(),
         ];
@@ -98,9 +103,9 @@ impl Ours {
 pub struct Batch {
     now: u64,
     generations: [u64; CALLS as usize],
-    probes: [bool; CALLS as usize],
-    settles: [bool; CALLS as usize],
-    marks: [bool; CALLS as usize],
+    probes: [u8; CALLS as usize],
+    settles: [u8; CALLS as usize],
+    marks: [u8; CALLS as usize],
     answers: [u64; CALLS as usize],
 }
 
@@ -109,9 +114,9 @@ impl Batch {
         let mut batch = Self {
             now: task.call(0).0,
             generations: [0; CALLS as usize],
-            probes: [false; CALLS as usize],
-            settles: [false; CALLS as usize],
-            marks: [false; CALLS as usize],
+            probes: [0; CALLS as usize],
+            settles: [0; CALLS as usize],
+            marks: [0; CALLS as usize],
             answers: [0; CALLS as usize],
         };
         for i in 0..CALLS as usize {
@@ -121,9 +126,9 @@ impl Batch {
                 call => panic!("{call:?} finishes nothing"),
             };
             batch.generations[i] = ticket.generation;
-            batch.probes[i] = ticket.probe;
-            batch.settles[i] = settles;
-            batch.marks[i] = mark;
+            batch.probes[i] = flag(ticket.probe, YES);
+            batch.settles[i] = flag(settles, YES);
+            batch.marks[i] = flag(mark, YES);
         }
         batch
     }

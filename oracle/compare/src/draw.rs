@@ -39,9 +39,10 @@ pub fn step(prng: &mut Prng, player: &mut Player, config: &Config, state: &State
     spoil(prng, state, Step::new(now, op))
 }
 
-/// At times a wrong count of places, an unknown kind or a damaged record.
+/// Any byte for true. At times a wrong count of places, an unknown kind or a damaged record.
 pub fn spoil(prng: &mut Prng, state: &State, mut step: Step) -> Step {
     step.how.unread = prng.pick(&[0, 1, 7, u64::MAX]);
+    step.how.yes = 1 + prng.below(255) as u8;
     if prng.percent(2) {
         step.how.places = prng.pick(&[0, 1, 4095, 4097, ROOM]);
     }

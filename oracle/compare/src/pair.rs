@@ -1,7 +1,7 @@
 //! The Rust and the archive side by side: a step on both, and all compared.
 
-use archive::ffi::{Breaker, Shared};
-use archive::{Named, Side, config, shared, state};
+use archive::ffi::{Breaker, Counts, Shared};
+use archive::{Named, Side, config, flag, shared, state};
 use throttle::Subject;
 use throttle::plain::{Answer, Call, Config, Settings, State};
 use throttle::scope::PLACES;
@@ -208,7 +208,10 @@ fn least(short: Option<usize>, part: usize) -> usize {
 fn finish(ours: &mut Side, step: &Step, calls: &[Finishing], short: Option<usize>) -> Told {
     let len = |part| calls.len() - least(short, part);
     let generations: Vec<u64> = calls.iter().map(|call| call.ticket.generation).collect();
-    let part = |of: fn(&Finishing) -> bool| calls.iter().map(of).collect::<Vec<bool>>();
+    let part = |of: fn(&Finishing) -> bool| -> Vec<u8> {
+        let flags = calls.iter().map(|call| flag(of(call), step.how.yes));
+        flags.collect()
+    };
     let probes = part(|call| call.ticket.probe);
     let settles = part(|call| call.settles);
     let marks = part(|call| call.mark);
@@ -229,9 +232,11 @@ fn of_numbers(numbers: [u64; 8]) -> Shared {
         state: numbers[0] as u8,
         generation: numbers[1],
         run: numbers[2] as u32,
-        inflight: numbers[3] as u32,
-        trait_probes: numbers[4] as u32,
-        successes: numbers[5] as u32,
+        counts: Counts {
+            inflight: numbers[3] as u32,
+            trait_probes: numbers[4] as u32,
+            successes: numbers[5] as u32,
+        },
         open_until: numbers[6],
         len: numbers[7] as u32,
     }

@@ -5,7 +5,7 @@ use archive::{Handing, Side};
 use throttle::plain::{Answer, CLOSED, Call, End, HALF_OPEN, OPEN, RATIO, WINDOWED};
 use throttle::scope::PLACES;
 
-pub const SLIPS: [&str; 10] = [
+pub const SLIPS: [&str; 11] = [
     "open-until compared with >",
     "a success evicts a time equal to the cutoff",
     "exact fractions compared",
@@ -16,6 +16,7 @@ pub const SLIPS: [&str; 10] = [
     "the run of failures wraps",
     "trait probes wrap",
     "still_admits refuses its own generation in Open",
+    "a flag goes by its lowest bit",
 ];
 
 /// A place in `SLIPS` from 1 on; 0 is none.
@@ -31,6 +32,11 @@ impl Slip {
         let before = ours.breaker;
         let last = ours.list[PLACES - 1];
         let now = self.reading(ours, now, call);
+        let lowest = Handing {
+            yes: how.yes & 1,
+            ..*how
+        };
+        let how = if self.0 == 11 { &lowest } else { how };
         let answer = ours.hand(now, call, how);
         match self.0 {
             6 if before.shared.len == 4096 && ours.breaker.shared.len == 4095 => {
@@ -57,11 +63,12 @@ impl Slip {
     fn told(self, old: Breaker, ours: &mut Side, now: u64, call: &Call, told: Answer) -> Answer {
         let exact = self.0 == 3 && tripped(&old, &ours.breaker) && below_ratio(ours);
         let (was, is) = (&old.shared, &mut ours.breaker.shared);
+        let more_out = is.counts.inflight > was.counts.inflight;
         match self.0 {
             3 if exact => undo_trip(was, is),
             4 if was.generation == u64::MAX && is.generation == 0 => is.generation = 1,
-            5 if manual_success(call) && was.trait_probes == 0 && is.state == HALF_OPEN => {
-                is.inflight = is.inflight.saturating_sub(1);
+            5 if manual_success(call) && was.counts.trait_probes == 0 && is.state == HALF_OPEN => {
+                is.counts.inflight = is.counts.inflight.saturating_sub(1);
             }
             7 if old.config.kind == WINDOWED && was.len == 4095 && is.len == 4096 => {
                 ours.list[PLACES - 1] = 0;
@@ -69,7 +76,7 @@ impl Slip {
                 return Answer::FULL;
             }
             8 if was.run == u32::MAX && is.run == u32::MAX && failed(call) => is.run = 0,
-            9 if was.trait_probes == u32::MAX && is.inflight > was.inflight => is.trait_probes = 0,
+            9 if was.counts.trait_probes == u32::MAX && more_out => is.counts.trait_probes = 0,
             10 if was.state == OPEN && still(call) && told.number == 0 => {
                 return Answer::shed(was.open_until.saturating_sub(now));
             }

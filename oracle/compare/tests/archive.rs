@@ -18,5 +18,5 @@ fn the_archive_agrees_with_the_rust() {
 
 #[test]
 fn every_slip_is_found() {
-    succeeds(&["slips", "1", "200000"]);
+    succeeds(&["slips", "10", "200000"]);
 }

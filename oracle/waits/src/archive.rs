@@ -37,7 +37,9 @@ impl Default for Archive {
 impl Rival for Archive {
     fn play(&mut self, played: &Played) -> Result<(), Difference> {
         self.left.clear();
+        let yes = 1 + self.prng.below(255) as u8;
         for side in [&mut self.single, &mut self.runs] {
+            side.yes = yes;
             let answer = side.set(&played.settings, &played.first);
             Seen::of(answer).check(side, played, 0, Answer::DONE, &played.first)?;
         }

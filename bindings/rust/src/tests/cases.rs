@@ -3,11 +3,11 @@ use core::time::Duration;
 
 use super::{admitted, breaker, journal_fields, restore, snapshot, ticket};
 use crate::{
-    BreakerState, CircuitBreaker, Decision, ManualClock, Permit, Refused, SystemClock, Trip,
+    BreakerState, CircuitBreaker, Decision, ManualClock, Permit, SystemClock, ThrottleError, Trip,
 };
 
-fn shed(ms: u64) -> Refused {
-    Refused::CircuitOpen {
+fn shed(ms: u64) -> ThrottleError {
+    ThrottleError::CircuitOpen {
         retry_after: Duration::from_millis(ms),
     }
 }
@@ -215,10 +215,10 @@ fn inner_refusals_give_the_trial_back() {
     let retry = Decision::Retry {
         after: Duration::MAX,
     };
-    assert_eq!(b.try_acquire(retry).unwrap_err(), Refused::InnerRetry);
+    assert_eq!(b.try_acquire(retry).unwrap_err(), ThrottleError::InnerRetry);
     assert_eq!(journal_fields(&b), (1, 2, 0, 0, 1030));
     let never = b.try_acquire(Decision::Impossible { capacity: 100 });
-    let expected = Refused::CostExceedsCapacity {
+    let expected = ThrottleError::CostExceedsCapacity {
         cost: 1,
         capacity: 100,
     };
@@ -265,8 +265,8 @@ fn number_5_leaves_all_as_it_was() {
     clock.set(20 * 4096);
     let full = snapshot(&b);
     assert_eq!(full.record.shared.len, 4096);
-    assert_eq!(admitted(&b).failure(), Err(Refused::TimesFull));
-    assert_eq!(b.record_failure(), Err(Refused::TimesFull));
+    assert_eq!(admitted(&b).failure(), Err(ThrottleError::Full));
+    assert_eq!(b.record_failure(), Err(ThrottleError::Full));
     drop(admitted(&b));
     assert_eq!(snapshot(&b), full);
     admitted(&b).success();
@@ -295,7 +295,7 @@ fn settings_are_normalised_or_refused() {
             .trip(wide)
             .build(&clock)
             .unwrap_err(),
-        Refused::TooWide
+        ThrottleError::Limit
     );
     let widest = Trip::Windowed {
         failures: 4096,
@@ -305,15 +305,64 @@ fn settings_are_normalised_or_refused() {
     assert_eq!((c.period_ms, c.trials, c.required), (u64::MAX, 1, 1));
 }
 
+/// What a limiter that replies so is told, and how often it was asked.
+fn asked(b: &CircuitBreaker<&ManualClock>, reply: Decision) -> (Result<(), ThrottleError>, u32) {
+    let mut asked = 0;
+    let permit = b.try_acquire_with(|| {
+        asked += 1;
+        reply
+    });
+    (permit.map(core::mem::forget), asked)
+}
+
+#[test]
+fn a_limiter_is_asked_only_where_the_breaker_admits() {
+    let clock = ManualClock::new(0);
+    let b = opened(&clock, 1, 1);
+    clock.set(1029);
+    assert_eq!(asked(&b, Decision::Acquired), (Err(shed(1)), 0));
+    assert_eq!(journal_fields(&b), (2, 1, 0, 0, 1030));
+    clock.set(1030);
+    let after = Duration::from_millis(5);
+    let retry = asked(&b, Decision::Retry { after });
+    assert_eq!(retry, (Err(ThrottleError::InnerRetry), 1));
+    assert_eq!(journal_fields(&b), (1, 2, 0, 0, 1030));
+    let never = ThrottleError::CostExceedsCapacity {
+        cost: 1,
+        capacity: 7,
+    };
+    let impossible = asked(&b, Decision::Impossible { capacity: 7 });
+    assert_eq!(impossible, (Err(never), 1));
+    assert_eq!(journal_fields(&b), (1, 2, 0, 0, 1030));
+    assert_eq!(asked(&b, Decision::Acquired), (Ok(()), 1));
+    assert_eq!(journal_fields(&b), (1, 2, 1, 0, 1030));
+    assert_eq!(asked(&b, Decision::Acquired), (Err(shed(0)), 0));
+}
+
+#[test]
+fn a_limiter_may_use_the_breaker_while_it_is_asked() {
+    let clock = ManualClock::new(0);
+    let b = breaker(&clock, Trip::Consecutive(1), 1, 1);
+    let late = b
+        .try_acquire_with(|| {
+            b.record_failure().expect("recorded");
+            Decision::Acquired
+        })
+        .expect("a permit");
+    assert_eq!(late.ticket, ticket(0, false));
+    late.success();
+    assert_eq!(journal_fields(&b), (2, 1, 0, 0, 1000));
+}
+
 #[test]
 fn refusals_say_their_number() {
     assert_eq!(shed(530).number(), 6);
     assert_eq!(
         shed(530).to_string(),
-        "refused with 6: the breaker sheds, retry after 530 ms"
+        "refused with 6: circuit breaker is open; request shed, retry in 530ms"
     );
     assert_eq!(
-        Refused::TimesFull.to_string(),
+        ThrottleError::Full.to_string(),
         "refused with 5: a failure with 4,096 older times left"
     );
 }

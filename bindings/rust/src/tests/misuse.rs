@@ -5,7 +5,7 @@ type Call = fn(*mut Breaker, *mut u64, usize) -> Told;
 
 const TICKET: Ticket = Ticket {
     generation: 0,
-    probe: false,
+    probe: 0,
 };
 
 const SETTING: Setting = Setting {
@@ -24,16 +24,16 @@ const SETTING: Setting = Setting {
 /// Every call of the header that changes a breaker which is there already.
 const CHANGES: [(&str, Call); 15] = [
     ("admit_as", |b, l, n| unsafe {
-        pudvirez_admit_as(b, l, n, 5, false)
+        pudvirez_admit_as(b, l, n, 5, 0)
     }),
     ("admit_as trait", |b, l, n| unsafe {
-        pudvirez_admit_as(b, l, n, 5, true)
+        pudvirez_admit_as(b, l, n, 5, 1)
     }),
     ("settle", |b, l, n| unsafe {
-        pudvirez_settle(b, l, n, 5, TICKET, false)
+        pudvirez_settle(b, l, n, 5, TICKET, 0)
     }),
     ("abort_as", |b, l, n| unsafe {
-        pudvirez_abort_as(b, l, n, TICKET, true)
+        pudvirez_abort_as(b, l, n, TICKET, 1)
     }),
     ("permit_success", |b, l, n| unsafe {
         pudvirez_permit_success(b, l, n, 5, TICKET)
@@ -49,7 +49,7 @@ const CHANGES: [(&str, Call); 15] = [
     }),
     ("reset", |b, l, n| unsafe { pudvirez_reset(b, l, n) }),
     ("record_manual", |b, l, n| unsafe {
-        pudvirez_record_manual(b, l, n, 5, false)
+        pudvirez_record_manual(b, l, n, 5, 0)
     }),
     ("release", |b, l, n| unsafe {
         pudvirez_release_trait_probe(b, l, n)
@@ -97,7 +97,7 @@ const UNKNOWN: [(&str, Call); 5] = [
 
 /// One answer whose number is not 0 yet, so that a write to it shows.
 fn finish_all(b: *mut Breaker, l: *mut u64, n: usize, marks: usize) -> (Told, u64) {
-    let (generation, yes, mut answer) = (0u64, [true, true], 77u64);
+    let (generation, yes, mut answer) = (0u64, [1u8, 1], 77u64);
     let told = unsafe {
         pudvirez_finish_all(
             b,
@@ -122,6 +122,11 @@ fn finish_all(b: *mut Breaker, l: *mut u64, n: usize, marks: usize) -> (Told, u6
 /// The bytes of every field. Those between the fields say nothing.
 pub(super) fn bytes(b: &Breaker) -> Vec<u8> {
     let (c, h) = (&b.config, &b.shared);
+    let Counts {
+        inflight,
+        trait_probes,
+        successes,
+    } = h.counts;
     let mut all = vec![c.kind, h.state];
     for n in [
         c.limit,
@@ -129,12 +134,11 @@ pub(super) fn bytes(b: &Breaker) -> Vec<u8> {
         c.trials,
         c.required,
         h.run,
-        h.inflight,
-        h.trait_probes,
+        inflight,
+        trait_probes,
+        successes,
+        h.len,
     ] {
-        all.extend(n.to_ne_bytes());
-    }
-    for n in [h.successes, h.len] {
         all.extend(n.to_ne_bytes());
     }
     for n in [
@@ -165,8 +169,8 @@ pub(super) fn start() -> (Breaker, Vec<u64>) {
         )
     };
     assert_eq!(told, Told::default());
-    unsafe { pudvirez_settle(&mut b, l, PLACES, 1, TICKET, false) };
-    unsafe { pudvirez_settle(&mut b, l, PLACES, 2, TICKET, true) };
+    unsafe { pudvirez_settle(&mut b, l, PLACES, 1, TICKET, 0) };
+    unsafe { pudvirez_settle(&mut b, l, PLACES, 2, TICKET, 1) };
     assert_eq!((b.shared.len, &list[..3]), (2, &[1, 0, 0][..]));
     (b, list)
 }
@@ -183,8 +187,7 @@ fn refused(
     let told = call(&mut b, list.as_mut_ptr(), count);
     let expected = Told {
         number,
-        v1: 0,
-        v2: 0,
+        ..Told::default()
     };
     assert_eq!(told, expected, "{name} with {count} places");
     assert_eq!(bytes(&b), bytes(&start.0), "{name}: the record");
@@ -201,8 +204,8 @@ pub(super) fn unsound() -> Vec<(Breaker, Vec<u64>)> {
         |b, _| b.config.period_ms = 1,
         |b, _| b.config.required = 3,
         |b, _| b.shared.state = 3,
-        |b, _| b.shared.inflight = 1,
-        |b, _| b.shared.successes = 1,
+        |b, _| b.shared.counts.inflight = 1,
+        |b, _| b.shared.counts.successes = 1,
         |b, _| b.shared.len = u32::MAX,
         |_, list| list[1] = 2,
         |_, list| list[PLACES - 1] = 1,

@@ -1,8 +1,10 @@
 //! Tests that look into the record. Those of the public side alone stand in the documentation.
 mod cases;
+mod flags;
 mod layout;
 mod misuse;
 mod orders;
+mod panics;
 mod threads;
 mod wait_rows;
 mod waits;
@@ -35,7 +37,10 @@ fn admitted<C: Clock>(breaker: &CircuitBreaker<C>) -> Permit<'_, C> {
 }
 
 fn ticket(generation: u64, probe: bool) -> Ticket {
-    Ticket { generation, probe }
+    Ticket {
+        generation,
+        probe: probe.into(),
+    }
 }
 
 /// Test-only: a breaker as it stands, every field and all places.
@@ -53,5 +58,12 @@ fn restore<C: Clock>(breaker: &CircuitBreaker<C>, start: &Owned) {
 /// The fields that document 01's journal prints: state, generation, inflight, successes, open-until.
 fn journal_fields<C: Clock>(breaker: &CircuitBreaker<C>) -> (u8, u64, u32, u32, u64) {
     let h = breaker.lock().record.shared;
-    (h.state, h.generation, h.inflight, h.successes, h.open_until)
+    let counts = h.counts;
+    (
+        h.state,
+        h.generation,
+        counts.inflight,
+        counts.successes,
+        h.open_until,
+    )
 }

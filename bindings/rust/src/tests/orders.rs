@@ -52,7 +52,8 @@ impl Start {
         }
         let h = b.lock().record.shared;
         assert_eq!((h.state, h.generation), (1, SPELL));
-        assert_eq!((h.inflight, h.successes), (self.trials, self.earlier));
+        let counts = (h.counts.inflight, h.counts.successes);
+        assert_eq!(counts, (self.trials, self.earlier));
         b
     }
 
@@ -291,8 +292,8 @@ fn batch(start: &Owned, calls: &[Finish]) -> (Owned, Vec<u64>) {
     let mut owned = start.clone();
     let mut answers = vec![77; calls.len()];
     let generations: Vec<u64> = calls.iter().map(|c| c.ticket.generation).collect();
-    let flags = |of: fn(&Finish) -> bool| calls.iter().map(of).collect::<Vec<bool>>();
-    let probes = flags(|c| c.ticket.probe);
+    let flags = |of: fn(&Finish) -> bool| calls.iter().map(|c| of(c).into()).collect::<Vec<u8>>();
+    let probes = flags(|c| c.ticket.probe != 0);
     let settles = flags(|c| c.outcome != Abort);
     let marks = flags(|c| c.outcome == Success);
     let (n, list) = (calls.len(), owned.places.as_mut_ptr());

@@ -6,7 +6,7 @@ use super::orders::{
     end, finish, interleavings, Abort, Failure, Finish, Outcome, Start, Success, SPELL,
 };
 use super::{snapshot, ticket};
-use crate::{CircuitBreaker, Decision, ManualClock, Refused, Trip};
+use crate::{CircuitBreaker, Decision, ManualClock, ThrottleError, Trip};
 
 const ROUNDS: usize = 300;
 
@@ -80,7 +80,7 @@ fn admitting_and_settling_at_once() {
         }
     });
     let end = snapshot(&b);
-    assert_eq!(end.record.shared.inflight, 0);
+    assert_eq!(end.record.shared.counts.inflight, 0);
     assert!(end.record.shared.generation > 0);
     assert!(end.is_sound());
 }
@@ -91,7 +91,7 @@ fn one_call(breaker: &CircuitBreaker<&ManualClock>, turn: usize) {
         Ok(permit) => permit,
         Err(refused) => {
             let retry_after = Duration::ZERO;
-            return assert_eq!(refused, Refused::CircuitOpen { retry_after });
+            return assert_eq!(refused, ThrottleError::CircuitOpen { retry_after });
         }
     };
     match turn % 5 {

@@ -12,11 +12,7 @@ type Call = fn(&mut All, usize) -> Waited;
 
 fn begin(all: &mut All, n: usize, now_ms: u64, clock: u64, timeout: u64) -> Waited {
     let list = all.1.as_mut_ptr();
-    unsafe {
-        pudvirez_wait_start(
-            &mut all.0, list, n, &mut all.2, now_ms, clock, true, timeout,
-        )
-    }
+    unsafe { pudvirez_wait_start(&mut all.0, list, n, &mut all.2, now_ms, clock, 1, timeout) }
 }
 
 fn turn(all: &mut All, n: usize, turn: Turn) -> Waited {
@@ -94,7 +90,7 @@ fn looking() -> All {
         ..Setting::default()
     };
     unsafe { pudvirez_build(&mut b, list.as_mut_ptr(), PLACES, setting) };
-    unsafe { pudvirez_record_manual(&mut b, list.as_mut_ptr(), PLACES, 30, false) };
+    unsafe { pudvirez_record_manual(&mut b, list.as_mut_ptr(), PLACES, 30, 0) };
     let mut all = (b, list, Pending::default());
     assert_eq!(
         begin(&mut all, PLACES, 1030, 0, 100 * MS),
@@ -116,7 +112,7 @@ fn holding() -> All {
 /// State of the breaker, trials out, phase of the wait.
 fn state(all: &All) -> (u8, u32, u64) {
     let shared = &all.0.shared;
-    (shared.state, shared.inflight, all.2.wait.phase)
+    (shared.state, shared.counts.inflight, all.2.wait.phase)
 }
 
 fn told(number: u32, v1: u64, v2: u64) -> Waited {
@@ -144,7 +140,7 @@ fn ends(name: &str, before: &All, answer: Waited, call: impl Fn(&mut All) -> Wai
     assert_eq!(all.2.wait, Wait::default(), "{name}: an ended wait");
     assert_eq!(all.2.ticket, before.2.ticket, "{name}: its ticket");
     let mut freed = before.0;
-    freed.shared.inflight = 0;
+    freed.shared.counts.inflight = 0;
     assert_eq!(bytes(&all.0), bytes(&freed), "{name}: the trial given back");
     assert_eq!(all.1, before.1, "{name}: the places");
 }
@@ -212,7 +208,7 @@ fn row_4_a_breaker_that_is_not_sound() {
 fn row_6_the_breaker_sheds() {
     let mut open = holding();
     let list = open.1.as_mut_ptr();
-    unsafe { pudvirez_record_manual(&mut open.0, list, PLACES, 1035, false) };
+    unsafe { pudvirez_record_manual(&mut open.0, list, PLACES, 1035, 0) };
     assert_eq!(state(&open), (2, 0, 2));
     let check = Turn {
         clock: 2 * MS,
@@ -335,6 +331,7 @@ fn a_run_ends_with_the_ticket_and_reads_no_further() {
         v1: 0,
         v2: 2,
         v3: 1,
+        v4: 0,
         taken: 3,
     };
     assert_eq!(run(&mut all, PLACES, &turns, 9), admitted);

@@ -4,7 +4,7 @@ use std::collections::VecDeque;
 use std::panic::{catch_unwind, AssertUnwindSafe};
 
 use super::{breaker, journal_fields, snapshot, ticket};
-use crate::{BreakerState, CircuitBreaker, Host, ManualClock, Refused, Reply, Trip};
+use crate::{BreakerState, CircuitBreaker, Host, ManualClock, Reply, ThrottleError, Trip};
 
 const fn ms(n: u64) -> Duration {
     Duration::from_millis(n)
@@ -29,7 +29,7 @@ enum Done {
     Slept(Duration),
     SleptUnlessResumed(Duration, u64),
     Yielded,
-    Refunded(u64),
+    Refunded(u32),
 }
 
 /// A sleep moves the clock, and one that a resume may end uses the pause up.
@@ -54,7 +54,7 @@ impl Script {
         }
     }
 
-    fn refunds(&self) -> u64 {
+    fn refunds(&self) -> u32 {
         let refunds = self.done.iter().map(|done| match done {
             Done::Refunded(units) => *units,
             _ => 0,
@@ -78,8 +78,8 @@ impl Host for Script {
         100
     }
 
-    fn refund(&mut self, units: u64) {
-        self.done.push(Done::Refunded(units));
+    fn refund(&mut self, cost: u32) {
+        self.done.push(Done::Refunded(cost));
     }
 
     fn sleep(&mut self, nap: Duration) {
@@ -129,9 +129,7 @@ fn a_wait_that_is_admitted() {
     let clock = ManualClock::new(0);
     let b = ready(&clock);
     let mut host = Script::new(&[retry(5), retry(0), granted(2)]);
-    let permit = b
-        .acquire_waiting(&mut host, Some(ms(100)))
-        .expect("a permit");
+    let permit = b.acquire_timeout(&mut host, ms(100)).expect("a permit");
     assert_eq!(permit.ticket, ticket(2, true));
     assert_eq!(journal_fields(&b), ONE_OUT);
     let expected = [
@@ -155,7 +153,7 @@ fn a_grant_is_kept_through_a_pause() {
     host.epoch = 7;
     host.pause = ms(30);
     host.postponed = ms(1);
-    let permit = b.acquire_waiting(&mut host, None).expect("a permit");
+    let permit = b.acquire(&mut host).expect("a permit");
     let expected = [
         Done::Asked(Duration::MAX),
         Done::Slept(ms(2)),
@@ -171,7 +169,7 @@ fn a_pause_that_grows_moves_the_grant() {
     let clock = ManualClock::new(0);
     let b = ready(&clock);
     let mut host = Script::new(&[granted(2)]);
-    let mut waiting = b.start_waiting(&mut host, None).expect("a wait");
+    let mut waiting = b.admit_waiting(&mut host, None).expect("a wait");
     assert!(waiting.turn().expect("a turn").is_none());
     assert_eq!(waiting.pending.wait.due, 502_000_000);
     waiting.host_mut().postponed = ms(4);
@@ -179,7 +177,7 @@ fn a_pause_that_grows_moves_the_grant() {
     assert_eq!(waiting.pending.wait.due, 506_000_000);
     let permit = waiting.turn().expect("a turn").expect("a permit");
     permit.success();
-    assert_eq!(waiting.turn().unwrap_err(), Refused::UnknownReply);
+    assert_eq!(waiting.turn().unwrap_err(), ThrottleError::Turn);
     drop(waiting);
     assert_eq!(host.done[1..], [Done::Slept(ms(2)), Done::Slept(ms(4))]);
 }
@@ -190,9 +188,7 @@ fn a_resume_during_a_look_looks_again() {
     let b = ready(&clock);
     let mut host = Script::new(&[retry(5), NOW]);
     host.resumes_while_asked = true;
-    b.acquire_waiting(&mut host, None)
-        .expect("a permit")
-        .success();
+    b.acquire(&mut host).expect("a permit").success();
     assert_eq!(host.done, [Done::Asked(Duration::MAX); 2]);
 }
 
@@ -201,10 +197,8 @@ fn p12_four_yields_then_the_deadline() {
     let clock = ManualClock::new(0);
     let b = ready(&clock);
     let mut host = Script::new(&[retry(0); 5]);
-    let missed = b
-        .acquire_waiting(&mut host, Some(Duration::ZERO))
-        .unwrap_err();
-    assert_eq!(missed, Refused::DeadlineExceeded);
+    let missed = b.acquire_timeout(&mut host, Duration::ZERO).unwrap_err();
+    assert_eq!(missed, ThrottleError::DeadlineExceeded);
     assert_eq!(missed.number(), 9);
     let turn = [Done::Asked(Duration::ZERO), Done::Yielded];
     let mut expected = turn.repeat(4);
@@ -219,8 +213,8 @@ fn a_deadline_gives_a_held_grant_back() {
     let b = ready(&clock);
     let mut host = Script::new(&[NOW]);
     host.pause = ms(9);
-    let missed = b.acquire_waiting(&mut host, Some(ms(8))).unwrap_err();
-    assert_eq!(missed, Refused::DeadlineExceeded);
+    let missed = b.acquire_timeout(&mut host, ms(8)).unwrap_err();
+    assert_eq!(missed, ThrottleError::DeadlineExceeded);
     assert_eq!(host.done, [Done::Asked(ms(8)), Done::Refunded(1)]);
     assert_eq!(journal_fields(&b), GIVEN_BACK);
 }
@@ -230,8 +224,8 @@ fn never_is_told_with_the_capacity() {
     let clock = ManualClock::new(0);
     let b = ready(&clock);
     let mut host = Script::new(&[Reply::Never]);
-    let never = b.acquire_waiting(&mut host, None).unwrap_err();
-    let expected = Refused::CostExceedsCapacity {
+    let never = b.acquire(&mut host).unwrap_err();
+    let expected = ThrottleError::CostExceedsCapacity {
         cost: 1,
         capacity: 100,
     };
@@ -245,18 +239,18 @@ fn a_breaker_that_opens_meanwhile_sheds() {
     let clock = ManualClock::new(0);
     let b = ready(&clock);
     let mut host = Script::new(&[granted(2)]);
-    let mut waiting = b.start_waiting(&mut host, None).expect("a wait");
+    let mut waiting = b.admit_waiting(&mut host, None).expect("a wait");
     assert!(waiting.turn().expect("a turn").is_none());
     clock.set(1035);
     b.record_failure().expect("recorded");
     clock.set(1040);
-    let shed = Refused::CircuitOpen {
+    let shed = ThrottleError::CircuitOpen {
         retry_after: ms(995),
     };
     assert_eq!(waiting.turn().unwrap_err(), shed);
     drop(waiting);
     assert_eq!(host.refunds(), 1);
-    assert_eq!(b.acquire_waiting(&mut host, None).unwrap_err(), shed);
+    assert_eq!(b.acquire(&mut host).unwrap_err(), shed);
     assert_eq!(b.state(), BreakerState::Open);
 }
 
@@ -266,7 +260,7 @@ fn a_dropped_wait_gives_back() {
     let b = ready(&clock);
     for (reply, refunds) in [(retry(5), 0), (granted(5), 1)] {
         let mut host = Script::new(&[reply]);
-        let mut waiting = b.start_waiting(&mut host, None).expect("a wait");
+        let mut waiting = b.admit_waiting(&mut host, None).expect("a wait");
         assert!(waiting.turn().expect("a turn").is_none());
         assert_eq!(journal_fields(&b), ONE_OUT);
         drop(waiting);
@@ -281,7 +275,7 @@ fn a_host_that_panics_leaves_nothing_out() {
     let b = ready(&clock);
     let mut host = Script::new(&[granted(5)]);
     host.panics_in_sleep = true;
-    let wait = AssertUnwindSafe(|| b.acquire_waiting(&mut host, None).map(drop));
+    let wait = AssertUnwindSafe(|| b.acquire(&mut host).map(drop));
     assert!(catch_unwind(wait).is_err());
     assert_eq!(host.refunds(), 1);
     assert_eq!(journal_fields(&b), GIVEN_BACK);
@@ -295,14 +289,14 @@ fn a_time_over_its_bound_is_told_1() {
     let over = Duration::from_nanos((1 << 62) + 1);
     let mut host = Script::new(&[granted(5), NOW]);
     for timeout in [over, Duration::MAX] {
-        let refused = b.start_waiting(&mut host, Some(timeout)).unwrap_err();
-        assert_eq!(refused, Refused::Nanoseconds);
+        let refused = b.admit_waiting(&mut host, Some(timeout)).unwrap_err();
+        assert_eq!(refused, ThrottleError::Time);
         assert_eq!(snapshot(&b), before);
     }
-    let mut waiting = b.start_waiting(&mut host, None).expect("a wait");
+    let mut waiting = b.admit_waiting(&mut host, None).expect("a wait");
     let pending = waiting.pending;
     waiting.host_mut().pause = over;
-    assert_eq!(waiting.turn().unwrap_err(), Refused::Nanoseconds);
+    assert_eq!(waiting.turn().unwrap_err(), ThrottleError::Time);
     assert_eq!(waiting.pending, pending);
     assert_eq!(waiting.host_mut().refunds(), 1);
     waiting.host_mut().pause = Duration::ZERO;

@@ -37,20 +37,20 @@ tested c =
 returns : tie.Need-returns
 returns c =
     let start = c .before .before .before .before .before in
-    asked-refused (Calls.standing (start .args .now-ms) (start .args .ticket)) (start .args .breaker) (start .args .list .now) (c .before .r .given .0 .0) (sym (c .before .r .given .1) ∙ c .before .before .before .test .ensures)
+    asked-refused (Calls.stillAdmitted (start .args .now-ms) (start .args .ticket)) (start .args .breaker) (start .args .list .now) (c .before .r .given .0 .0) (sym (c .before .r .given .1) ∙ c .before .before .before .test .ensures)
 
 returns-2 : tie.Need-returns-2
 returns-2 c =
     let start = c .before .before .before .before .before .before .before in
     stands (start .args .now-ms) (start .args .ticket) (state (start .args .breaker) (start .args .list .now)) _ (sym (c .enum-told2 .given .1) ∙ c .before .before .still-admits-locked .ensures (start .args .breaker .config) (state (start .args .breaker) (start .args .list .now)) (holds (start .args .breaker) (start .args .list .now) (tested (c .before .before .before)) .0))
-    ∙ asked-done (Calls.standing (start .args .now-ms) (start .args .ticket)) (start .args .breaker) (start .args .list .now) (tested (c .before .before .before))
+    ∙ asked-done (Calls.stillAdmitted (start .args .now-ms) (start .args .ticket)) (start .args .breaker) (start .args .list .now) (tested (c .before .before .before))
 
 returns-3 : tie.Need-returns-3
 returns-3 c =
     let place = c .before .before .before .before in
     let start = place .before .before .before .before in
     stands (start .args .now-ms) (start .args .ticket) (state (start .args .breaker) (start .args .list .now)) _ (sym (c .before .d .given .1) ∙ c .before .before .before .still-admits-locked .ensures (start .args .breaker .config) (state (start .args .breaker) (start .args .list .now)) (holds (start .args .breaker) (start .args .list .now) (tested (place)) .0))
-    ∙ asked-done (Calls.standing (start .args .now-ms) (start .args .ticket)) (start .args .breaker) (start .args .list .now) (tested (place))
+    ∙ asked-done (Calls.stillAdmitted (start .args .now-ms) (start .args .ticket)) (start .args .breaker) (start .args .list .now) (tested (place))
 
 pub still-admits-spec : {M : Type 1} → statement M
 still-admits-spec =

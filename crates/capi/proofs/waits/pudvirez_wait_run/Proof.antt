@@ -1,12 +1,12 @@
--- `capi::waits::pudvirez_wait_run` is thin over `crossing::wait_run`. Assumes nothing.
+-- `capi::waits::pudvirez_wait_run` is thin over `plain::wait_run`. Assumes nothing.
 use mathlib.Core.List.{[], _∷_}
 use base.Logic.{id⊢}
 use Rattle.thin.proofs.Types.{u32, u64, val, slice, mutSlice, mutRef}
 use Rattle.thin.proofs.Mut.{mut-spec}
 use Rattle.capi.proofs.Types.{breaker, pending, waitStep, waited}
-use Rattle.crossing.proofs.wait_run as g
-use Rattle.crossing.proofs.wait_run.Symbol as g-def
-use Rattle.crossing.proofs.wait_run.Met as g-thm
+use Rattle.plain.proofs.wait_run as g
+use Rattle.plain.proofs.wait_run.Symbol as g-def
+use Rattle.plain.proofs.wait_run.Met as g-thm
 use Rattle.capi.proofs.waits.pudvirez_wait_run as f
 use Rattle.capi.proofs.waits.pudvirez_wait_run.Key as key
 use Rattle.capi.proofs.waits.pudvirez_wait_run.Statement as stated
@@ -17,4 +17,4 @@ unfolding code.routine
 pudvirez-wait-run-spec 𝓤 H 𝓜 𝓖 𝓡 =
     mut-spec waited (mutRef breaker ∷ mutSlice u64 ∷ mutRef pending ∷ slice u64 ∷ val u64 ∷ val u64 ∷ val u32 ∷ []) waitStep 𝓤 H 𝓜 𝓖 𝓡 (f.clauses 𝓤 H (𝓖 .A) (𝓜 .mem) (𝓡 .run)) (g.clauses 𝓤 H (𝓖 .A) (𝓜 .mem) (𝓡 .run))
     record { gh = λ κs a x. x; req = λ κs a x. id⊢ 𝓤 _; ens = λ κs a x z ws. id⊢ 𝓤 _ }
-    code.env key.name g-def.name (code.unfolded 𝓤 H 𝓜 𝓡) g-def.routine code.calls-crossing·wait-run (g-thm.met 𝓤 H 𝓜 𝓖 𝓡)
+    code.env key.name g-def.name (code.unfolded 𝓤 H 𝓜 𝓡) g-def.routine code.calls-plain·wait-run (g-thm.met 𝓤 H 𝓜 𝓖 𝓡)

@@ -9,6 +9,9 @@ enum-known-answer c = search needs
 flag-requires : tie.Need-flag-requires
 flag-requires c κs = search needs
 
+cast-t7 : tie.Need-cast-t7
+cast-t7 c = search needs
+
 enum-known-answer-2 : tie.Need-enum-known-answer-2
 enum-known-answer-2 c = search needs
 
@@ -33,6 +36,7 @@ tell-admission-spec =
     (tie.spec
     enum-known-answer
     flag-requires
+    cast-t7
     enum-known-answer-2
     enum-known-answer-3
     tell-refusal-requires

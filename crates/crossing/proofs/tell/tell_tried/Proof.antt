@@ -9,6 +9,9 @@ enum-known-answer c = search needs
 flag-requires : tie.Need-flag-requires
 flag-requires c κs = search needs
 
+cast-t9 : tie.Need-cast-t9
+cast-t9 c = search needs
+
 enum-known-answer-2 : tie.Need-enum-known-answer-2
 enum-known-answer-2 c = search needs
 
@@ -18,11 +21,11 @@ enum-told c = search needs
 enum-known-answer-3 : tie.Need-enum-known-answer-3
 enum-known-answer-3 c = search needs
 
-cast-t9 : tie.Need-cast-t9
-cast-t9 c = search needs
-
 cast-t10 : tie.Need-cast-t10
 cast-t10 c = search needs
+
+cast-t11 : tie.Need-cast-t11
+cast-t11 c = search needs
 
 enum-known-answer-4 : tie.Need-enum-known-answer-4
 enum-known-answer-4 c = search needs
@@ -51,11 +54,12 @@ tell-tried-spec =
     (tie.spec
     enum-known-answer
     flag-requires
+    cast-t9
     enum-known-answer-2
     enum-told
     enum-known-answer-3
-    cast-t9
     cast-t10
+    cast-t11
     enum-known-answer-4
     tell-refusal-requires
     returns

@@ -9,6 +9,9 @@ enum-known-end c = search needs
 flag-requires : tie.Need-flag-requires
 flag-requires c κs = search needs
 
+cast-t11 : tie.Need-cast-t11
+cast-t11 c = search needs
+
 enum-known-end-2 : tie.Need-enum-known-end-2
 enum-known-end-2 c = search needs
 
@@ -36,6 +39,7 @@ tell-completed-spec =
     (tie.spec
     enum-known-end
     flag-requires
+    cast-t11
     enum-known-end-2
     enum-known-end-3
     enum-known-end-4

@@ -1,0 +1,2 @@
+-- What a call leaves, from what the call under it left.
+pub mod Cross

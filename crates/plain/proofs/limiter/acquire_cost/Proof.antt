@@ -1,0 +1,48 @@
+-- `plain::limiter::acquire_cost` meets its contract: 11 for an unknown reply, else the call by value, packed. Assumes nothing.
+use mathlib.Core.Path.{sym, _∙_}
+use borrow.Author.Tests.{not-true, not-false}
+use Rattle.plain.proofs.Cross.{cross, cross-told, known-reply, unknown-reply}
+use borrow.Author.Needs.{needs}
+use Rattle.plain.proofs.limiter.acquire_cost.Statement.{statement}
+use Rattle.plain.proofs.limiter.acquire_cost.Tie as tie
+
+is-known-requires : tie.Need-is-known-requires
+is-known-requires c κs = search needs
+
+tell-unknown-requires : tie.Need-tell-unknown-requires
+tell-unknown-requires c κs = search needs
+
+same-length : tie.Need-same-length
+same-length c = search needs
+
+returns : tie.Need-returns
+returns c = cross-told _ _ _ _ (c .tell-unknown .ensures) _ (unknown-reply _ _ _ _ (sym (c .before .before .before .is-known .ensures) ∙ not-true (c .before .before .before .is-known .result) (c .before .before .if1 .taken)))
+
+decision-by-requires : tie.Need-decision-by-requires
+decision-by-requires c κs = search needs
+
+acquire-cost-requires : tie.Need-acquire-cost-requires
+acquire-cost-requires c κs = search needs
+
+pack-acquisition-requires : tie.Need-pack-acquisition-requires
+pack-acquisition-requires c κs = search needs
+
+same-length-2 : tie.Need-same-length-2
+same-length-2 c = search needs
+
+returns-2 : tie.Need-returns-2
+returns-2 c = cross _ _ _ _ (c .pack-acquisition .ensures) _ (rw (c .before .before .before .before .before .decision-by .ensures) at (c .before .before .before .acquire-cost .ensures) ∙ known-reply _ _ _ _ (sym (c .before .before .before .before .before .before .before .is-known .ensures) ∙ not-false (c .before .before .before .before .before .before .before .is-known .result) (c .before .before .before .before .before .before .if1 .left)))
+
+pub acquire-cost-spec : {M : Type 1} → statement M
+acquire-cost-spec =
+    tie.close
+    (tie.spec
+    is-known-requires
+    tell-unknown-requires
+    same-length
+    returns
+    decision-by-requires
+    acquire-cost-requires
+    pack-acquisition-requires
+    same-length-2
+    returns-2)

@@ -1,0 +1,2 @@
+-- What a call by value came to, packed.
+pub mod Steps
