@@ -9,7 +9,7 @@ use Rattle.waiting.proofs.Steps.{turn-tested, turn-next, turn-refused, 
 use Rattle.waiting.proofs.calls.turn.Statement.{statement}
 use Rattle.waiting.proofs.calls.turn.Tie as tie
 
-sound-now : (c : tie.After-enum-told) → sound (c .before .before .before .before .before .args .breaker) (c .before .before .before .before .before .args .list .now) ≡ true
+sound-now : (c : tie.After-enum-told) → let args = c .before .before .before .before .before .args in sound (args .breaker) (args .list .now) ≡ true
 sound-now c =
     let args = c .before .before .before .before .before .args in
     tested-sound (args .breaker) (args .list .now) (sym (c .enum-told .given .1) ∙ c .before .before .test .ensures)
@@ -46,7 +46,8 @@ same-length c = search needs
 
 returns : tie.Need-returns
 returns c =
-    let args = c .before .before .before .before .before .before .args in
+    let c5 = c .before .before .before .before .before in
+    let args = c5 .before .args in
     turn-tested (args .turn) (args .now-ms) (args .capacity) (args .breaker) (args .list .now) (args .pending) (c .before .r .given .0 .0) (sym (c .before .r .given .1) ∙ c .before .before .before .test .ensures)
 
 same-length-2 : tie.Need-same-length-2
@@ -54,32 +55,38 @@ same-length-2 c = search needs
 
 returns-2 : tie.Need-returns-2
 returns-2 c =
-    let args = c .before .before .before .before .before .before .before .before .before .before .args in
+    let c5 = c .before .before .before .before .before in
+    let c10 = c5 .before .before .before .before .before in
+    let args = c10 .args in
     let turn = c .before .before .before .before .turn in
     let with-wait = c .before .before .before .with-wait in
-    turn-next (args .turn) (args .now-ms) (args .capacity) (args .breaker) (args .list .now) (args .pending) (sound-now (c .before .before .before .before .before)) (turn .result) (turning-one _ _ (turn .ensures)) (with-wait .result) (with-wait .ensures) (c .before .answer .given .0 .0) (c .before .answer .given .1)
+    turn-next (args .turn) (args .now-ms) (args .capacity) (args .breaker) (args .list .now) (args .pending) (sound-now c5) (turn .result) (turning-one _ _ (turn .ensures)) (with-wait .result) (with-wait .ensures) (c .before .answer .given .0 .0) (c .before .answer .given .1)
 
 same-length-3 : tie.Need-same-length-3
 same-length-3 c = search needs
 
 returns-3 : tie.Need-returns-3
 returns-3 c =
-    let args = c .before .before .before .before .before .before .before .before .before .before .args in
+    let c5 = c .before .before .before .before .before in
+    let c10 = c5 .before .before .before .before .before in
+    let args = c10 .args in
     let turn = c .before .before .before .before .turn in
     let with-wait = c .before .before .before .with-wait in
-    turn-refused (args .turn) (args .now-ms) (args .capacity) (args .breaker) (args .list .now) (args .pending) (sound-now (c .before .before .before .before .before)) (turn .result) (turning-one _ _ (turn .ensures)) (with-wait .result) (with-wait .ensures) (c .before .answer2 .given .0 .0) (c .before .answer2 .given .1)
+    turn-refused (args .turn) (args .now-ms) (args .capacity) (args .breaker) (args .list .now) (args .pending) (sound-now c5) (turn .result) (turning-one _ _ (turn .ensures)) (with-wait .result) (with-wait .ensures) (c .before .answer2 .given .0 .0) (c .before .answer2 .given .1)
 
 same-length-4 : tie.Need-same-length-4
 same-length-4 c = search needs
 
 returns-4 : tie.Need-returns-4
 returns-4 c =
-    let args = c .before .before .before .before .before .before .before .before .before .before .before .before .args in
-    let before = c .before .before .before .before .before .before .before in
-    let turn = c .before .before .before .before .before .before .turn in
-    let with-wait = c .before .before .before .before .before .with-wait in
+    let c5 = c .before .before .before .before .before in
+    let c10 = c5 .before .before .before .before .before in
+    let args = c10 .before .before .args in
+    let passed = c5 .before .before in
+    let turn = c5 .before .turn in
+    let with-wait = c5 .with-wait in
     let answer3 = c .before .before .before .answer3 in
-    turn-ends (args .turn) (args .now-ms) (args .capacity) (args .breaker) (args .list .now) (args .pending) (sound-now before) (turn .result) (turning-one _ _ (turn .ensures)) (with-wait .result) (with-wait .ensures) (answer3 .given .0 .0) _ _ (answer3 .given .1) (c .before .complete .ensures)
+    turn-ends (args .turn) (args .now-ms) (args .capacity) (args .breaker) (args .list .now) (args .pending) (sound-now passed) (turn .result) (turning-one _ _ (turn .ensures)) (with-wait .result) (with-wait .ensures) (answer3 .given .0 .0) _ _ (answer3 .given .1) (c .before .complete .ensures)
 
 pub turn-spec : {M : Type 1} → statement M
 turn-spec =

@@ -52,8 +52,9 @@ returns-3 c =
 
 returns-4 : tie.Need-returns-4
 returns-4 c =
-    let args = c .before .before .before .before .before .before .before .args in
-    λ cfg st e. sheds-now cfg (args .now-ms) (args .capacity) (args .ticket) st (c .before .before .d .given .0 .0) _ (sym (c .before .before .d .given .1) ∙ c .before .before .before .before .still-admits-locked .ensures cfg st e) (c .given-up3 .ensures cfg st e) ∙ ap (λ (x : Ending). kept cfg (completes x (args .now-ms) (args .capacity) (args .ticket) st)) (sym (c .before .before .before .before .before .enum-told2 .given .1))
+    let c5 = c .before .before .before .before .before in
+    let args = c5 .before .before .args in
+    λ cfg st e. sheds-now cfg (args .now-ms) (args .capacity) (args .ticket) st (c .before .before .d .given .0 .0) _ (sym (c .before .before .d .given .1) ∙ c .before .before .before .before .still-admits-locked .ensures cfg st e) (c .given-up3 .ensures cfg st e) ∙ ap (λ (x : Ending). kept cfg (completes x (args .now-ms) (args .capacity) (args .ticket) st)) (sym (c5 .enum-told2 .given .1))
 
 pub complete-spec : {M : Type 1} → statement M
 complete-spec =
