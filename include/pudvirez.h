@@ -33,11 +33,11 @@
  *     - what pudvirez_permit_cancel and pudvirez_refund say (v1).
  * To ask the limiter only where the breaker admits, call pudvirez_admit_as, then the limiter, and pudvirez_abort_as if it refused.
  *
- * FLOATING POINT. What is sound and what a ratio becomes go by the ratio's bits, and no floating-point mode changes them. The trip of
- * PUDVIREZ_POLICY_RATIO is one binary64 division and one comparison, made where a failure is recorded (pudvirez_settle,
- * pudvirez_permit_failure, pudvirez_permit_dropped, pudvirez_record_manual, pudvirez_finish_all). It is promised in the default mode alone:
- * round to nearest, no FTZ or DAZ, exceptions masked. A program that changes the mode, or is linked with -Ofast, which does, must restore
- * it around these calls.
+ * FLOATING POINT. Exceptions must be masked, as they are by default. What is sound and what a ratio becomes go by the ratio's bits: no
+ * rounding, FTZ or DAZ changes them. The trip of PUDVIREZ_POLICY_RATIO is one binary64 division and one comparison, made where a failure is
+ * recorded (pudvirez_settle, pudvirez_permit_failure, pudvirez_permit_dropped, pudvirez_record_manual, pudvirez_finish_all). It is promised
+ * in the default mode alone: round to nearest, no FTZ or DAZ. A program that changes the mode, or is linked with -Ofast, which does, must
+ * restore it around these calls.
  */
 #ifndef PUDVIREZ_H
 #define PUDVIREZ_H
