@@ -8,7 +8,7 @@ ghost use Rattle.breaker.specs.Calls as Calls;
 ghost use Rattle.breaker.specs.Calls.{onSound, asked};
 ghost use Rattle.breaker.specs.Orders.{FinishingOrders};
 ghost use Rattle.breaker.specs.Batch.{slices, finishedAll};
-ghost use Rattle.crossing.specs.Crossing.{packed, crossing, crossed, crossings, crossedAll, ticketBy, known, decisionBy, onReply, builtBy};
+ghost use Rattle.crossing.specs.Crossing.{packed, crossing, crossed, crossings, crossedAll, ticketBy, isReply, decisionBy, onReply, builtBy};
 use breaker::Breaker;
 use crossing::PlainTicket;
 use crossing::Setting;
@@ -53,7 +53,7 @@ pub extern "C" fn pudvirez_try_admit(
     inner_ms: u64,
     capacity: u32,
 ) -> Told
-    ensures { λ r. ⌜ crossing r (now (breaker .exit)) (now (list .exit)) ≡ crossed (onReply (known «inner_kind») (Calls.tryAdmit (decisionBy «inner_kind» «inner_ms») capacity «now_ms») (now (breaker .entry)) (now (list .entry))) ⌝ }
+    ensures { λ r. ⌜ crossing r (now (breaker .exit)) (now (list .exit)) ≡ crossed (onReply (isReply «inner_kind») (Calls.tryAdmit (decisionBy «inner_kind» «inner_ms») capacity «now_ms») (now (breaker .entry)) (now (list .entry))) ⌝ }
 {
     let s = plain::try_admit(*breaker, list, now_ms, inner_kind, inner_ms, capacity);
     *breaker = s.breaker;

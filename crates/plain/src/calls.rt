@@ -8,7 +8,7 @@ ghost use Rattle.breaker.specs.Calls as Calls;
 ghost use Rattle.breaker.specs.Calls.{onSound, asked};
 ghost use Rattle.breaker.specs.Orders.{FinishingOrders};
 ghost use Rattle.breaker.specs.Batch.{slices, finishedAll};
-ghost use Rattle.crossing.specs.Crossing.{packed, crossing, crossed, crossings, crossedAll, ticketBy, known, decisionBy, onReply, builtBy};
+ghost use Rattle.crossing.specs.Crossing.{packed, crossing, crossed, crossings, crossedAll, ticketBy, isReply, decisionBy, onReply, builtBy};
 use crate::Step;
 use crate::pack::pack_admitted;
 use crate::pack::pack_settled;
@@ -19,7 +19,8 @@ use crossing::Setting;
 use crossing::Told;
 use crossing::builder_by;
 use crossing::decision_by;
-use crossing::is_known;
+use crossing::is_policy;
+use crossing::is_reply;
 use crossing::tell_counted;
 use crossing::tell_standing;
 use crossing::tell_unknown;
@@ -31,7 +32,7 @@ use crossing::ticket_by;
 pub fn build(breaker: Breaker, list: &mut [u64], setting: Setting) -> Step
     ensures { λ r. ⌜ crossing (r .answer) (r .breaker) (now (list .exit)) ≡ crossed (builtBy setting breaker (now (list .entry))) ⌝ }
 {
-    if !is_known(setting.kind) {
+    if !is_policy(setting.kind) {
         return Step {
             answer: tell_unknown_policy(list),
             breaker,
@@ -59,9 +60,9 @@ pub fn try_admit(
     inner_ms: u64,
     capacity: u32,
 ) -> Step
-    ensures { λ r. ⌜ crossing (r .answer) (r .breaker) (now (list .exit)) ≡ crossed (onReply (known «inner_kind») (Calls.tryAdmit (decisionBy «inner_kind» «inner_ms») capacity «now_ms») breaker (now (list .entry))) ⌝ }
+    ensures { λ r. ⌜ crossing (r .answer) (r .breaker) (now (list .exit)) ≡ crossed (onReply (isReply «inner_kind») (Calls.tryAdmit (decisionBy «inner_kind» «inner_ms») capacity «now_ms») breaker (now (list .entry))) ⌝ }
 {
-    if !is_known(inner_kind) {
+    if !is_reply(inner_kind) {
         return Step {
             answer: tell_unknown(breaker, list),
             breaker,
