@@ -31,7 +31,10 @@ same-length-2 : tie.Need-same-length-2
 same-length-2 c = search needs
 
 returns-2 : tie.Need-returns-2
-returns-2 c = cross _ _ _ _ (c .pack-settled .ensures) _ (rw (c .before .before .before .before .before .builder-by .ensures) at (c .before .before .before .build .ensures) ∙ known-built _ _ _ (sym (c .before .before .before .before .before .before .before .is-policy .ensures) ∙ not-false (c .before .before .before .before .before .before .before .is-policy .result) (c .before .before .before .before .before .before .if1 .left)))
+returns-2 c =
+    let k = c .before .before .before .before .before .before .before .is-policy in
+    let known = sym (k .ensures) ∙ not-false (k .result) (c .before .before .before .before .before .before .if1 .left) in
+    cross _ _ _ _ (c .pack-settled .ensures) _ (rw (c .before .before .before .before .before .builder-by .ensures) at (c .before .before .before .build .ensures) ∙ known-built _ _ _ known)
 
 pub build-spec : {M : Type 1} → statement M
 build-spec =

@@ -31,7 +31,10 @@ same-length-2 : tie.Need-same-length-2
 same-length-2 c = search needs
 
 returns-2 : tie.Need-returns-2
-returns-2 c = cross _ _ _ _ (c .pack-acquisition .ensures) _ (rw (c .before .before .before .before .before .decision-by .ensures) at (c .before .before .before .acquire-cost .ensures) ∙ known-reply _ _ _ _ (sym (c .before .before .before .before .before .before .before .is-reply .ensures) ∙ not-false (c .before .before .before .before .before .before .before .is-reply .result) (c .before .before .before .before .before .before .if1 .left)))
+returns-2 c =
+    let k = c .before .before .before .before .before .before .before .is-reply in
+    let known = sym (k .ensures) ∙ not-false (k .result) (c .before .before .before .before .before .before .if1 .left) in
+    cross _ _ _ _ (c .pack-acquisition .ensures) _ (rw (c .before .before .before .before .before .decision-by .ensures) at (c .before .before .before .acquire-cost .ensures) ∙ known-reply _ _ _ _ known)
 
 pub acquire-cost-spec : {M : Type 1} → statement M
 acquire-cost-spec =
