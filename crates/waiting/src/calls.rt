@@ -80,6 +80,16 @@ pub fn start(
     }
 }
 
+fn awaiting(answer: Awaited, breaker: Breaker, pending: Pending) -> Awaiting
+    ensures { λ r. ⌜ ((places : List ℕ) → pendingAfter (awaitedTold (r .answer)) (r .breaker) places (r .pending) ≡ pendingAfter (awaitedTold answer) breaker places pending) ⌝ }
+{
+    Awaiting {
+        answer,
+        breaker,
+        pending,
+    }
+}
+
 // One turn. One that ends the wait completes it: admitted, if the breaker still admits the ticket at this reading; else the ticket is aborted.
 // Ruled out: a completion that skips the abort; one that admits whatever the breaker has become.
 pub fn turn(
@@ -93,35 +103,19 @@ pub fn turn(
     ensures { λ r. ⌜ pendingAfter (awaitedTold (r .answer)) (r .breaker) (now (list .exit)) (r .pending) ≡ turning turn «now_ms» capacity breaker (now (list .entry)) pending ⌝ }
 {
     match test(breaker, list) {
-        Tested::Refused(r) => Awaiting {
-            answer: Awaited::Refused(r),
-            breaker,
-            pending,
-        },
+        Tested::Refused(r) => awaiting(Awaited::Refused(r), breaker, pending),
         Tested::Sound => {
             let turned = wait::turn(pending.wait, turn);
             let answer = turned.answer;
             let next = with_wait(turned.wait, pending);
             match answer {
-                Turned::Next(act) => Awaiting {
-                    answer: Awaited::Next(act),
-                    breaker,
-                    pending: next,
-                },
-                Turned::Refused(r) => Awaiting {
-                    answer: Awaited::Refused(r),
-                    breaker,
-                    pending: next,
-                },
+                Turned::Next(act) => awaiting(Awaited::Next(act), breaker, next),
+                Turned::Refused(r) => awaiting(Awaited::Refused(r), breaker, next),
                 Turned::Ends(ending) => {
                     let done = complete(breaker, pending.ticket, ending, now_ms, capacity);
                     let told = done.answer;
                     let left = done.breaker;
-                    Awaiting {
-                        answer: Awaited::Ends(told),
-                        breaker: left,
-                        pending: next,
-                    }
+                    awaiting(Awaited::Ends(told), left, next)
                 }
             }
         }
