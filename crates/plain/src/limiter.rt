@@ -26,7 +26,10 @@ pub fn acquire_cost(
     inner_kind: u8,
     inner_ms: u64,
 ) -> Step
-    ensures { λ r. ⌜ crossing (r .answer) (r .breaker) (now (list .exit)) ≡ crossed (onReply (isReply «inner_kind») (Calls.acquireCost (decisionBy «inner_kind» «inner_ms») «now_ms») breaker (now (list .entry))) ⌝ }
+    ensures { λ r. ⌜
+        crossing (r .answer) (r .breaker) (now (list .exit))
+        ≡ crossed (onReply (isReply «inner_kind») (Calls.acquireCost (decisionBy «inner_kind» «inner_ms») «now_ms») breaker (now (list .entry)))
+        ⌝ }
 {
     if !is_reply(inner_kind) {
         return Step {
@@ -47,7 +50,10 @@ pub fn reserve(
     inner_kind: u8,
     inner_ms: u64,
 ) -> Step
-    ensures { λ r. ⌜ crossing (r .answer) (r .breaker) (now (list .exit)) ≡ crossed (onReply (reservable «inner_kind») (Calls.reserve (reservationBy «inner_kind» «inner_ms») «now_ms») breaker (now (list .entry))) ⌝ }
+    ensures { λ r. ⌜
+        crossing (r .answer) (r .breaker) (now (list .exit))
+        ≡ crossed (onReply (reservable «inner_kind») (Calls.reserve (reservationBy «inner_kind» «inner_ms») «now_ms») breaker (now (list .entry)))
+        ⌝ }
 {
     if !is_reservable(inner_kind) {
         return Step {
@@ -89,7 +95,10 @@ pub fn available(
     inner_ms: u64,
     count: u32,
 ) -> Told
-    ensures { λ r. ⌜ r ≡ packed (askedReply (isReply «inner_kind») (Calls.available (decisionBy «inner_kind» «inner_ms») count «now_ms») breaker (now (list .entry))) ⌝ }
+    ensures { λ r. ⌜
+        r
+        ≡ packed (askedReply (isReply «inner_kind») (Calls.available (decisionBy «inner_kind» «inner_ms») count «now_ms») breaker (now (list .entry)))
+        ⌝ }
 {
     if !is_reply(inner_kind) {
         return tell_unknown(breaker, list);
