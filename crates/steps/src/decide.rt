@@ -68,7 +68,9 @@ fn counted(change: Change, trips: bool) -> Recorded
 
 // Consecutive: the list stays empty.
 fn decide_run(b: Breaker, success: bool) -> Recorded
-    ensures { λ r. ⌜ ((c : Config) (st : State) (reading : ℕ) → b ≡ stored c st → policyOf c ≡ Consecutive (c .limit) → Decides (settings c) reading success st r) ⌝ }
+    ensures { λ r. ⌜
+        ((c : Config) (st : State) (reading : ℕ) → b ≡ stored c st → policyOf c ≡ Consecutive (c .limit) → Decides (settings c) reading success st r)
+        ⌝ }
 {
     let len = b.shared.len;
     if success {
@@ -87,7 +89,10 @@ fn decide_run(b: Breaker, success: bool) -> Recorded
 
 // Ratio: the outcome goes behind the list, and before a full window the oldest goes.
 fn decide_outcome(b: Breaker, list: &[u64], window: u32, success: bool) -> Recorded
-    ensures { λ r. ⌜ (sound b (now (list .entry)) ≡ true → (c : Config) (st : State) (reading : ℕ) → Holds c st b (now (list .entry)) → policyOf c ≡ Ratio window (ofBits binary64 (c .«ratio_bits»)) (c .«min_calls») → Decides (settings c) reading success st r) ⌝ }
+    ensures { λ r. ⌜
+        (sound b (now (list .entry)) ≡ true → (c : Config) (st : State) (reading : ℕ) → Holds c st b (now (list .entry))
+        → policyOf c ≡ Ratio window (ofBits binary64 (c .«ratio_bits»)) (c .«min_calls») → Decides (settings c) reading success st r)
+        ⌝ }
 {
     let c = b.config;
     let h = b.shared;
@@ -122,7 +127,10 @@ fn over(len: u32, window: u32) -> u32
 
 // Windowed: the readings before the cutoff go, and a failure's own is appended.
 fn decide_time(b: Breaker, list: &[u64], now_ms: u64, success: bool) -> Recorded
-    ensures { λ r. ⌜ (sound b (now (list .entry)) ≡ true → (c : Config) (st : State) → Holds c st b (now (list .entry)) → policyOf c ≡ Windowed (c .limit) (c .«period_ms») → Decides (settings c) «now_ms» success st r) ⌝ }
+    ensures { λ r. ⌜
+        (sound b (now (list .entry)) ≡ true → (c : Config) (st : State) → Holds c st b (now (list .entry))
+        → policyOf c ≡ Windowed (c .limit) (c .«period_ms») → Decides (settings c) «now_ms» success st r)
+        ⌝ }
 {
     let c = b.config;
     let h = b.shared;
@@ -153,7 +161,10 @@ fn decide_time(b: Breaker, list: &[u64], now_ms: u64, success: bool) -> Recorded
 // An outcome in Closed, with a ticket that is not stale: a refusal, or what becomes of run and list, and whether it opens.
 // Ruled out: a success that trips; a failure that leaves the run.
 pub fn decide_closed(b: Breaker, list: &[u64], now_ms: u64, success: bool) -> Recorded
-    ensures { λ r. ⌜ (sound b (now (list .entry)) ≡ true → (c : Config) (st : State) → Holds c st b (now (list .entry)) → Decides (settings c) «now_ms» success st r) ⌝ }
+    ensures { λ r. ⌜
+        (sound b (now (list .entry)) ≡ true → (c : Config) (st : State) → Holds c st b (now (list .entry))
+        → Decides (settings c) «now_ms» success st r)
+        ⌝ }
 {
     let items = items_of(b.config);
     match items {

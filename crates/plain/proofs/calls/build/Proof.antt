@@ -32,9 +32,12 @@ same-length-2 c = search needs
 
 returns-2 : tie.Need-returns-2
 returns-2 c =
-    let k = c .before .before .before .before .before .before .before .is-policy in
-    let known = sym (k .ensures) ∙ not-false (k .result) (c .before .before .before .before .before .before .if1 .left) in
-    cross _ _ _ _ (c .pack-settled .ensures) _ (rw (c .before .before .before .before .before .builder-by .ensures) at (c .before .before .before .build .ensures) ∙ known-built _ _ _ known)
+    let at-builder-by = c .before .before .before .before .before in
+    let at-if1 = at-builder-by .before in
+    let at-is-policy = at-if1 .before in
+    let k = at-is-policy .is-policy in
+    let known = sym (k .ensures) ∙ not-false (k .result) (at-if1 .if1 .left) in
+    cross _ _ _ _ (c .pack-settled .ensures) _ (rw (at-builder-by .builder-by .ensures) at (c .before .before .before .build .ensures) ∙ known-built _ _ _ known)
 
 pub build-spec : {M : Type 1} → statement M
 build-spec =

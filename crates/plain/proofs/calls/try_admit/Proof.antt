@@ -32,9 +32,12 @@ same-length-2 c = search needs
 
 returns-2 : tie.Need-returns-2
 returns-2 c =
-    let k = c .before .before .before .before .before .before .before .is-reply in
-    let known = sym (k .ensures) ∙ not-false (k .result) (c .before .before .before .before .before .before .if1 .left) in
-    cross _ _ _ _ (c .pack-tried .ensures) _ (rw (c .before .before .before .before .before .decision-by .ensures) at (c .before .before .before .try-admit .ensures) ∙ known-reply _ _ _ _ known)
+    let at-decision-by = c .before .before .before .before .before in
+    let at-if1 = at-decision-by .before in
+    let at-is-reply = at-if1 .before in
+    let k = at-is-reply .is-reply in
+    let known = sym (k .ensures) ∙ not-false (k .result) (at-if1 .if1 .left) in
+    cross _ _ _ _ (c .pack-tried .ensures) _ (rw (at-decision-by .decision-by .ensures) at (c .before .before .before .try-admit .ensures) ∙ known-reply _ _ _ _ known)
 
 pub try-admit-spec : {M : Type 1} → statement M
 try-admit-spec =

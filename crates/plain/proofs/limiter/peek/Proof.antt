@@ -26,7 +26,9 @@ tell-decided-requires : tie.Need-tell-decided-requires
 tell-decided-requires c κs = search needs
 
 returns-2 : tie.Need-returns-2
-returns-2 c = c .tell-decided .ensures ∙ ap packed (rw (c .before .before .decision-by .ensures) at (c .before .peek .ensures) ∙ known-asked _ _ _ _ (sym (c .before .before .before .before .is-reply .ensures) ∙ not-false (c .before .before .before .before .is-reply .result) (c .before .before .before .if1 .left)))
+returns-2 c =
+    let at-is-reply = c .before .before .before .before in
+    c .tell-decided .ensures ∙ ap packed (rw (c .before .before .decision-by .ensures) at (c .before .peek .ensures) ∙ known-asked _ _ _ _ (sym (at-is-reply .is-reply .ensures) ∙ not-false (at-is-reply .is-reply .result) (c .before .before .before .if1 .left)))
 
 pub peek-spec : {M : Type 1} → statement M
 peek-spec =

@@ -12,7 +12,8 @@ use Rattle.waiting.proofs.calls.start.Tie as tie
 
 sound-now : (c : tie.After-enum-told) → let args = c .before .before .before .before .before .args in sound (args .breaker) (args .list .now) ≡ true
 sound-now c =
-    let args = c .before .before .before .before .before .args in
+    let start = c .before .before .before .before .before in
+    let args = start .args in
     tested-sound (args .breaker) (args .list .now) (sym (c .enum-told .given .1) ∙ c .before .before .test .ensures)
 
 test-requires : tie.Need-test-requires
@@ -47,7 +48,8 @@ same-length c = search needs
 
 returns : tie.Need-returns
 returns c =
-    let c5 = c .before .before .before .before .before in
+    let place = c .before .before .before .before .before in
+    let c5 = place in
     let args = c5 .before .args in
     start-tested (args .now-ms) (args .clock) (args .limited) (args .timeout) (args .breaker) (args .list .now) (args .pending) (c .before .r .given .0 .0) (sym (c .before .r .given .1) ∙ c .before .before .before .test .ensures)
 
@@ -56,16 +58,19 @@ same-length-2 c = search needs
 
 returns-2 : tie.Need-returns-2
 returns-2 c =
-    let c5 = c .before .before .before .before .before in
+    let place = c .before .before .before .before in
+    let place-2 = place .before in
+    let c5 = place-2 in
     let args = c5 .before .before .before .before .args in
-    start-refused (args .now-ms) (args .clock) (args .limited) (args .timeout) (args .breaker) (args .list .now) (args .pending) (sound-now (c .before .before .before .before)) (c .before .r2 .given .0 .0) (ap startedTold (sym (c .before .r2 .given .1)) ∙ c .before .before .before .start .ensures)
+    start-refused (args .now-ms) (args .clock) (args .limited) (args .timeout) (args .breaker) (args .list .now) (args .pending) (sound-now (place)) (c .before .r2 .given .0 .0) (ap startedTold (sym (c .before .r2 .given .1)) ∙ c .before .before .before .start .ensures)
 
 same-length-3 : tie.Need-same-length-3
 same-length-3 c = search needs
 
 returns-3 : tie.Need-returns-3
 returns-3 c =
-    let c5 = c .before .before .before .before .before in
+    let place = c .before .before .before .before .before in
+    let c5 = place in
     let c10 = c5 .before .before .before .before .before in
     let args = c10 .before .before .before .args in
     let passed = c5 .before .before .before in
@@ -78,7 +83,8 @@ same-length-4 c = search needs
 
 returns-4 : tie.Need-returns-4
 returns-4 c =
-    let c5 = c .before .before .before .before .before in
+    let place = c .before .before .before .before .before in
+    let c5 = place in
     let c10 = c5 .before .before .before .before .before in
     let args = c10 .before .before .before .args in
     let passed = c5 .before .before .before in
