@@ -1,4 +1,4 @@
-// The codes that cross, each in one place. The refusals' numbers stand in error.
+// The codes that cross, each in one place. The refusals' numbers stand in error, a policy's kinds in trip.
 
 // ---- document 01's numbers where a call is told something else than a refusal
 pub const TOLD_SHED: u32 = 6;
@@ -22,13 +22,6 @@ pub const REPLY_IMPOSSIBLE: u8 = 3;
 pub const RESERVED_NOTHING: u8 = 0;
 
 pub const RESERVED_WAIT: u8 = 1;
-
-// ---- kinds of a policy
-pub const POLICY_CONSECUTIVE: u8 = 1;
-
-pub const POLICY_RATIO: u8 = 2;
-
-pub const POLICY_WINDOWED: u8 = 3;
 
 // ---- what a turn that is told 0 came to: the wait ended admitted, or what the host is to do
 pub const ADMITTED: u64 = 0;

@@ -3,14 +3,14 @@ ghost use mathlib.Core.Path.{_≡_};
 ghost use Rattle.crossing.specs.Crossing.{packed, isPolicy, tripBy, builderBy, unknownPolicy};
 use crate::Setting;
 use crate::Told;
-use crate::codes::POLICY_CONSECUTIVE;
-use crate::codes::POLICY_RATIO;
-use crate::codes::POLICY_WINDOWED;
 use crate::tell::tell_refusal;
 use error::Refusal;
 use history::PLACES;
 use trip::CircuitBreakerBuilder;
 use trip::Duration;
+use trip::POLICY_CONSECUTIVE;
+use trip::POLICY_RATIO;
+use trip::POLICY_WINDOWED;
 use trip::Trip;
 
 // Whether a policy has this kind.

@@ -25,6 +25,7 @@ use breaker::items_of;
 use breaker::no_counts;
 use error::Refusal;
 use history::Items;
+use history::MOST_ITEMS;
 
 // The record closed, for a list that is emptied.
 // Ruled out: a run of failures that is kept; open-until set to 0.
@@ -144,7 +145,7 @@ fn decide_time(b: Breaker, list: &[u64], now_ms: u64, success: bool) -> Recorded
             len: stay,
         });
     }
-    if 4096 <= stay {
+    if MOST_ITEMS <= stay {
         return Recorded::Refused(Refusal::Full);
     }
     let recent = history::count_recent(list, gone, h.len, cutoff);
