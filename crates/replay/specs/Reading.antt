@@ -19,8 +19,8 @@ Grown n room (Whole m) = m ≡ n
 Grown n room (More m) = (n < m) × (m ≤ n + room)
 Grown n room Failed = Unit
 
--- fewer bytes than there is room for are taken only from an input that ended
+-- an input that ended leaves room in the buffer; else it is full
 abbrev pub Came : List ℕ → Input → Type 0
-Came buffer (Whole n) = n ≤ length buffer
+Came buffer (Whole n) = n < length buffer
 Came buffer (More n) = n ≡ length buffer
 Came buffer Failed = Unit

@@ -51,7 +51,7 @@ as-long c =
     (same-len-mid (l .n) (length (l .buf) - l .n) (l .buf) (c .read-some .last .0) (c .read-some .kept .0), simp (length-take, length-drop) (omega arith))
 
 -- what is no `More` has come whole, or not at all
-stopped : (n room : ℕ) (buffer : List ℕ) (came : Input) → OneOf (0 ∷ 2 ∷ []) (tagOf the-type came) → n ≤ length buffer → Grown n room came → Came buffer came
+stopped : (n room : ℕ) (buffer : List ℕ) (came : Input) → OneOf (0 ∷ 2 ∷ []) (tagOf the-type came) → n < length buffer → Grown n room came → Came buffer came
 stopped n room buffer (Whole m) k h g = omega arith
 stopped n room buffer (More m) k h g = absurd (miss (0 ∷ 2 ∷ []) 1 tt k)
 stopped n room buffer Failed k h g = tt
