@@ -23,7 +23,9 @@ use steps::still_admits_locked;
 // Admits a call, through the trait side or not, or sheds it with a delay.
 // Ruled out: one that sheds every call; one that grants generation 0 to all.
 pub fn admit_as(breaker: Breaker, list: &mut [u64], now_ms: u64, via_trait: bool) -> Admitted
-    ensures { λ r. ⌜ after (admissionTold (r .answer)) (r .breaker) (now (list .exit)) ≡ onSound (Calls.admission «via_trait» «now_ms») breaker (now (list .entry)) ⌝ }
+    ensures { λ r. ⌜
+        after (admissionTold (r .answer)) (r .breaker) (now (list .exit)) ≡ onSound (Calls.admission «via_trait» «now_ms») breaker (now (list .entry))
+        ⌝ }
 {
     match test(breaker, list) {
         Tested::Refused(r) => Admitted {
@@ -52,7 +54,9 @@ pub fn try_admit(
     inner: Decision,
     capacity: u32,
 ) -> TriedAdmission
-    ensures { λ r. ⌜ after (triedTold (r .answer)) (r .breaker) (now (list .exit)) ≡ onSound (Calls.tryAdmit inner capacity «now_ms») breaker (now (list .entry)) ⌝ }
+    ensures { λ r. ⌜
+        after (triedTold (r .answer)) (r .breaker) (now (list .exit)) ≡ onSound (Calls.tryAdmit inner capacity «now_ms») breaker (now (list .entry))
+        ⌝ }
 {
     match test(breaker, list) {
         Tested::Refused(r) => TriedAdmission {

@@ -38,7 +38,9 @@ pub fn peek(breaker: Breaker, list: &[u64], now_ms: u64, inner: Decision) -> Dec
 // Admits through the trait side, with the inner limiter's reply.
 // Ruled out: a shed told as number 6; a trait probe kept after an inner retry.
 pub fn acquire_cost(breaker: Breaker, list: &mut [u64], now_ms: u64, inner: Decision) -> Acquisition
-    ensures { λ r. ⌜ after (decidedTold (r .answer)) (r .breaker) (now (list .exit)) ≡ onSound (Calls.acquireCost inner «now_ms») breaker (now (list .entry)) ⌝ }
+    ensures { λ r. ⌜
+        after (decidedTold (r .answer)) (r .breaker) (now (list .exit)) ≡ onSound (Calls.acquireCost inner «now_ms») breaker (now (list .entry))
+        ⌝ }
 {
     match test(breaker, list) {
         Tested::Refused(r) => Acquisition {

@@ -11,6 +11,7 @@ use crate::Finished;
 use crate::Settled;
 use crate::Shared;
 use error::Refusal;
+use history::MOST_ITEMS;
 use trip::Built;
 use trip::CircuitBreakerBuilder;
 
@@ -43,7 +44,7 @@ pub fn build(breaker: Breaker, list: &mut [u64], builder: CircuitBreakerBuilder)
             breaker,
         },
         Built::Made(config) => {
-            let _emptied = history::clear(list, 4096);
+            let _emptied = history::clear(list, MOST_ITEMS);
             Settled {
                 answer: Finished::Done,
                 breaker: Breaker {

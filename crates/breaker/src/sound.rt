@@ -6,8 +6,12 @@ use crate::HALF_OPEN;
 use crate::OPEN;
 use crate::Shared;
 use history::Items;
+use history::MOST_ITEMS;
 use trip::Config;
 use trip::ONE_BITS;
+use trip::POLICY_CONSECUTIVE;
+use trip::POLICY_RATIO;
+use trip::POLICY_WINDOWED;
 use trip::SIGN_BIT;
 
 // By the bits alone: -0.0, or a number from 0.0 to 1.0, whose bits are at most those of 1.0.
@@ -23,7 +27,7 @@ pub(crate) fn sound_ratio(bits: u64) -> bool
 pub(crate) fn sound_policy(c: Config) -> bool
     ensures { λ r. ⌜ r ≡ soundPolicy c ⌝ }
 {
-    if c.kind == 1 {
+    if c.kind == POLICY_CONSECUTIVE {
         if c.limit < 1 {
             return false;
         }
@@ -35,11 +39,11 @@ pub(crate) fn sound_policy(c: Config) -> bool
         }
         return c.period_ms == 0;
     }
-    if c.kind == 2 {
+    if c.kind == POLICY_RATIO {
         if c.limit < 1 {
             return false;
         }
-        if 4096 < c.limit {
+        if MOST_ITEMS < c.limit {
             return false;
         }
         if !sound_ratio(c.ratio_bits) {
@@ -50,13 +54,13 @@ pub(crate) fn sound_policy(c: Config) -> bool
         }
         return c.period_ms == 0;
     }
-    if c.kind != 3 {
+    if c.kind != POLICY_WINDOWED {
         return false;
     }
     if c.limit < 1 {
         return false;
     }
-    if 4096 < c.limit {
+    if MOST_ITEMS < c.limit {
         return false;
     }
     if c.ratio_bits != 0 {
@@ -100,10 +104,10 @@ pub(crate) fn sound_shared(c: Config, h: Shared) -> bool
 pub fn items_of(c: Config) -> Items
     ensures { λ r. ⌜ r ≡ itemsOf c ⌝ }
 {
-    if c.kind == 1 {
+    if c.kind == POLICY_CONSECUTIVE {
         return Items::Nothing;
     }
-    if c.kind == 2 {
+    if c.kind == POLICY_RATIO {
         return Items::Outcomes(c.limit);
     }
     Items::Times

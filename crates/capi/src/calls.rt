@@ -8,7 +8,7 @@ ghost use Rattle.breaker.specs.Calls as Calls;
 ghost use Rattle.breaker.specs.Calls.{onSound, asked};
 ghost use Rattle.breaker.specs.Orders.{FinishingOrders};
 ghost use Rattle.breaker.specs.Batch.{slices, finishedAll};
-ghost use Rattle.crossing.specs.Crossing.{packed, crossing, crossed, crossings, crossedAll, ticketBy, known, decisionBy, onReply, builtBy};
+ghost use Rattle.crossing.specs.Crossing.{packed, crossing, crossed, crossings, crossedAll, ticketBy, isReply, decisionBy, onReply, builtBy};
 use breaker::Breaker;
 use crossing::PlainTicket;
 use crossing::Setting;
@@ -35,7 +35,10 @@ pub extern "C" fn pudvirez_admit_as(
     now_ms: u64,
     via_trait: u8,
 ) -> Told
-    ensures { λ r. ⌜ crossing r (now (breaker .exit)) (now (list .exit)) ≡ crossed (onSound (Calls.admission (flagOf «via_trait») «now_ms») (now (breaker .entry)) (now (list .entry))) ⌝ }
+    ensures { λ r. ⌜
+        crossing r (now (breaker .exit)) (now (list .exit))
+        ≡ crossed (onSound (Calls.admission (flagOf «via_trait») «now_ms») (now (breaker .entry)) (now (list .entry)))
+        ⌝ }
 {
     let s = plain::admit_as(*breaker, list, now_ms, via_trait);
     *breaker = s.breaker;
@@ -53,7 +56,11 @@ pub extern "C" fn pudvirez_try_admit(
     inner_ms: u64,
     capacity: u32,
 ) -> Told
-    ensures { λ r. ⌜ crossing r (now (breaker .exit)) (now (list .exit)) ≡ crossed (onReply (known «inner_kind») (Calls.tryAdmit (decisionBy «inner_kind» «inner_ms») capacity «now_ms») (now (breaker .entry)) (now (list .entry))) ⌝ }
+    ensures { λ r. ⌜
+        crossing r (now (breaker .exit)) (now (list .exit))
+        ≡ crossed
+        (onReply (isReply «inner_kind») (Calls.tryAdmit (decisionBy «inner_kind» «inner_ms») capacity «now_ms») (now (breaker .entry)) (now (list .entry)))
+        ⌝ }
 {
     let s = plain::try_admit(*breaker, list, now_ms, inner_kind, inner_ms, capacity);
     *breaker = s.breaker;
@@ -70,7 +77,10 @@ pub extern "C" fn pudvirez_settle(
     ticket: PlainTicket,
     success: u8,
 ) -> Told
-    ensures { λ r. ⌜ crossing r (now (breaker .exit)) (now (list .exit)) ≡ crossed (onSound (Calls.settle «now_ms» (ticketBy ticket) (flagOf success)) (now (breaker .entry)) (now (list .entry))) ⌝ }
+    ensures { λ r. ⌜
+        crossing r (now (breaker .exit)) (now (list .exit))
+        ≡ crossed (onSound (Calls.settle «now_ms» (ticketBy ticket) (flagOf success)) (now (breaker .entry)) (now (list .entry)))
+        ⌝ }
 {
     let s = plain::settle(*breaker, list, now_ms, ticket, success);
     *breaker = s.breaker;
@@ -86,7 +96,10 @@ pub extern "C" fn pudvirez_abort_as(
     ticket: PlainTicket,
     via_trait: u8,
 ) -> Told
-    ensures { λ r. ⌜ crossing r (now (breaker .exit)) (now (list .exit)) ≡ crossed (onSound (Calls.abortAs (ticketBy ticket) (flagOf «via_trait»)) (now (breaker .entry)) (now (list .entry))) ⌝ }
+    ensures { λ r. ⌜
+        crossing r (now (breaker .exit)) (now (list .exit))
+        ≡ crossed (onSound (Calls.abortAs (ticketBy ticket) (flagOf «via_trait»)) (now (breaker .entry)) (now (list .entry)))
+        ⌝ }
 {
     let s = plain::abort_as(*breaker, list, ticket, via_trait);
     *breaker = s.breaker;
@@ -97,7 +110,9 @@ pub extern "C" fn pudvirez_abort_as(
 // Ruled out: a generation kept from Closed; open-until set to 0.
 #[no_mangle]
 pub extern "C" fn pudvirez_reset(breaker: &mut Breaker, list: &mut [u64]) -> Told
-    ensures { λ r. ⌜ crossing r (now (breaker .exit)) (now (list .exit)) ≡ crossed (onSound (λ s st. Rules.reset st) (now (breaker .entry)) (now (list .entry))) ⌝ }
+    ensures { λ r. ⌜
+        crossing r (now (breaker .exit)) (now (list .exit)) ≡ crossed (onSound (λ s st. Rules.reset st) (now (breaker .entry)) (now (list .entry)))
+        ⌝ }
 {
     let s = plain::reset(*breaker, list);
     *breaker = s.breaker;
@@ -113,7 +128,10 @@ pub extern "C" fn pudvirez_record_manual(
     now_ms: u64,
     success: u8,
 ) -> Told
-    ensures { λ r. ⌜ crossing r (now (breaker .exit)) (now (list .exit)) ≡ crossed (onSound (λ s st. Rules.manual s «now_ms» (flagOf success) st) (now (breaker .entry)) (now (list .entry))) ⌝ }
+    ensures { λ r. ⌜
+        crossing r (now (breaker .exit)) (now (list .exit))
+        ≡ crossed (onSound (λ s st. Rules.manual s «now_ms» (flagOf success) st) (now (breaker .entry)) (now (list .entry)))
+        ⌝ }
 {
     let s = plain::record_manual(*breaker, list, now_ms, success);
     *breaker = s.breaker;
@@ -124,7 +142,10 @@ pub extern "C" fn pudvirez_record_manual(
 // Ruled out: one that frees a plain probe; one that acts outside HalfOpen.
 #[no_mangle]
 pub extern "C" fn pudvirez_release_trait_probe(breaker: &mut Breaker, list: &mut [u64]) -> Told
-    ensures { λ r. ⌜ crossing r (now (breaker .exit)) (now (list .exit)) ≡ crossed (onSound (λ s st. Rules.done (Rules.released st)) (now (breaker .entry)) (now (list .entry))) ⌝ }
+    ensures { λ r. ⌜
+        crossing r (now (breaker .exit)) (now (list .exit))
+        ≡ crossed (onSound (λ s st. Rules.done (Rules.released st)) (now (breaker .entry)) (now (list .entry)))
+        ⌝ }
 {
     let s = plain::release_trait_probe(*breaker, list);
     *breaker = s.breaker;
@@ -146,8 +167,15 @@ pub extern "C" fn pudvirez_finish_all(
     marks: &[u8],
     answers: &mut [u64],
 ) -> Told
-    ensures { λ r. ⌜ crossings (crossing r (now (breaker .exit)) (now (list .exit))) (now (answers .exit)) ≡ crossedAll (finishedAll «now_ms» (slices (now (generations .entry)) (now (probes .entry)) (now (settles .entry)) (now (marks .entry))) (now (breaker .entry)) (now (list .entry)) (now (answers .entry))) ⌝ }
-    ensures orders { λ _. ⌜ (sound (now (breaker .entry)) (now (list .entry)) ≡ true → now (breaker .entry) .shared .state ≡ HalfOpen → FinishingOrders «now_ms» (now (breaker .entry)) (now (list .entry))) ⌝ }
+    ensures { λ r. ⌜
+        crossings (crossing r (now (breaker .exit)) (now (list .exit))) (now (answers .exit))
+        ≡ crossedAll
+        (finishedAll «now_ms» (slices (now (generations .entry)) (now (probes .entry)) (now (settles .entry)) (now (marks .entry))) (now (breaker .entry)) (now (list .entry)) (now (answers .entry)))
+        ⌝ }
+    ensures orders { λ _. ⌜
+        (sound (now (breaker .entry)) (now (list .entry)) ≡ true → now (breaker .entry) .shared .state ≡ HalfOpen
+        → FinishingOrders «now_ms» (now (breaker .entry)) (now (list .entry)))
+        ⌝ }
 {
     let s = plain::finish_all(
         *breaker,

@@ -2,7 +2,7 @@
 ghost use mathlib.Core.Path.{_≡_};
 ghost use Rattle.breaker.specs.Calls as Calls;
 ghost use Rattle.breaker.specs.Calls.{onSound};
-ghost use Rattle.crossing.specs.Crossing.{packed, crossing, crossed, known, decisionBy, reservable, reservationBy, onReply, askedReply};
+ghost use Rattle.crossing.specs.Crossing.{packed, crossing, crossed, isReply, decisionBy, reservable, reservationBy, onReply, askedReply};
 use breaker::Breaker;
 use crossing::Told;
 
@@ -16,7 +16,11 @@ pub extern "C" fn pudvirez_acquire_cost(
     inner_kind: u8,
     inner_ms: u64,
 ) -> Told
-    ensures { λ r. ⌜ crossing r (now (breaker .exit)) (now (list .exit)) ≡ crossed (onReply (known «inner_kind») (Calls.acquireCost (decisionBy «inner_kind» «inner_ms») «now_ms») (now (breaker .entry)) (now (list .entry))) ⌝ }
+    ensures { λ r. ⌜
+        crossing r (now (breaker .exit)) (now (list .exit))
+        ≡ crossed
+        (onReply (isReply «inner_kind») (Calls.acquireCost (decisionBy «inner_kind» «inner_ms») «now_ms») (now (breaker .entry)) (now (list .entry)))
+        ⌝ }
 {
     let s = plain::acquire_cost(*breaker, list, now_ms, inner_kind, inner_ms);
     *breaker = s.breaker;
@@ -33,7 +37,11 @@ pub extern "C" fn pudvirez_reserve(
     inner_kind: u8,
     inner_ms: u64,
 ) -> Told
-    ensures { λ r. ⌜ crossing r (now (breaker .exit)) (now (list .exit)) ≡ crossed (onReply (reservable «inner_kind») (Calls.reserve (reservationBy «inner_kind» «inner_ms») «now_ms») (now (breaker .entry)) (now (list .entry))) ⌝ }
+    ensures { λ r. ⌜
+        crossing r (now (breaker .exit)) (now (list .exit))
+        ≡ crossed
+        (onReply (reservable «inner_kind») (Calls.reserve (reservationBy «inner_kind» «inner_ms») «now_ms») (now (breaker .entry)) (now (list .entry)))
+        ⌝ }
 {
     let s = plain::reserve(*breaker, list, now_ms, inner_kind, inner_ms);
     *breaker = s.breaker;
@@ -61,7 +69,10 @@ pub extern "C" fn pudvirez_peek(
     inner_kind: u8,
     inner_ms: u64,
 ) -> Told
-    ensures { λ r. ⌜ r ≡ packed (askedReply (known «inner_kind») (Calls.peek (decisionBy «inner_kind» «inner_ms») «now_ms») (now (breaker .entry)) (now (list .entry))) ⌝ }
+    ensures { λ r. ⌜
+        r
+        ≡ packed (askedReply (isReply «inner_kind») (Calls.peek (decisionBy «inner_kind» «inner_ms») «now_ms») (now (breaker .entry)) (now (list .entry)))
+        ⌝ }
 {
     plain::peek(*breaker, list, now_ms, inner_kind, inner_ms)
 }
@@ -77,7 +88,11 @@ pub extern "C" fn pudvirez_available(
     inner_ms: u64,
     count: u32,
 ) -> Told
-    ensures { λ r. ⌜ r ≡ packed (askedReply (known «inner_kind») (Calls.available (decisionBy «inner_kind» «inner_ms») count «now_ms») (now (breaker .entry)) (now (list .entry))) ⌝ }
+    ensures { λ r. ⌜
+        r
+        ≡ packed
+        (askedReply (isReply «inner_kind») (Calls.available (decisionBy «inner_kind» «inner_ms») count «now_ms») (now (breaker .entry)) (now (list .entry)))
+        ⌝ }
 {
     plain::available(*breaker, list, now_ms, inner_kind, inner_ms, count)
 }

@@ -17,7 +17,10 @@ pub extern "C" fn pudvirez_permit_success(
     now_ms: u64,
     ticket: PlainTicket,
 ) -> Told
-    ensures { λ r. ⌜ crossing r (now (breaker .exit)) (now (list .exit)) ≡ crossed (onSound (Calls.settle «now_ms» (ticketBy ticket) true) (now (breaker .entry)) (now (list .entry))) ⌝ }
+    ensures { λ r. ⌜
+        crossing r (now (breaker .exit)) (now (list .exit))
+        ≡ crossed (onSound (Calls.settle «now_ms» (ticketBy ticket) true) (now (breaker .entry)) (now (list .entry)))
+        ⌝ }
 {
     let s = plain::permit_success(*breaker, list, now_ms, ticket);
     *breaker = s.breaker;
@@ -33,7 +36,10 @@ pub extern "C" fn pudvirez_permit_failure(
     now_ms: u64,
     ticket: PlainTicket,
 ) -> Told
-    ensures { λ r. ⌜ crossing r (now (breaker .exit)) (now (list .exit)) ≡ crossed (onSound (Calls.settle «now_ms» (ticketBy ticket) false) (now (breaker .entry)) (now (list .entry))) ⌝ }
+    ensures { λ r. ⌜
+        crossing r (now (breaker .exit)) (now (list .exit))
+        ≡ crossed (onSound (Calls.settle «now_ms» (ticketBy ticket) false) (now (breaker .entry)) (now (list .entry)))
+        ⌝ }
 {
     let s = plain::permit_failure(*breaker, list, now_ms, ticket);
     *breaker = s.breaker;
@@ -49,7 +55,10 @@ pub extern "C" fn pudvirez_permit_dropped(
     now_ms: u64,
     ticket: PlainTicket,
 ) -> Told
-    ensures { λ r. ⌜ crossing r (now (breaker .exit)) (now (list .exit)) ≡ crossed (onSound (Calls.settle «now_ms» (ticketBy ticket) false) (now (breaker .entry)) (now (list .entry))) ⌝ }
+    ensures { λ r. ⌜
+        crossing r (now (breaker .exit)) (now (list .exit))
+        ≡ crossed (onSound (Calls.settle «now_ms» (ticketBy ticket) false) (now (breaker .entry)) (now (list .entry)))
+        ⌝ }
 {
     let s = plain::permit_dropped(*breaker, list, now_ms, ticket);
     *breaker = s.breaker;
@@ -64,7 +73,10 @@ pub extern "C" fn pudvirez_permit_cancel(
     list: &mut [u64],
     ticket: PlainTicket,
 ) -> Told
-    ensures { λ r. ⌜ crossing r (now (breaker .exit)) (now (list .exit)) ≡ crossed (onSound (Calls.cancel (ticketBy ticket)) (now (breaker .entry)) (now (list .entry))) ⌝ }
+    ensures { λ r. ⌜
+        crossing r (now (breaker .exit)) (now (list .exit))
+        ≡ crossed (onSound (Calls.cancel (ticketBy ticket)) (now (breaker .entry)) (now (list .entry)))
+        ⌝ }
 {
     let s = plain::permit_cancel(*breaker, list, ticket);
     *breaker = s.breaker;

@@ -20,7 +20,12 @@ pub extern "C" fn pudvirez_wait_start(
     limited: u8,
     timeout: u64,
 ) -> Waited
-    ensures { λ r. ⌜ crossingWait r (now (breaker .exit)) (now (list .exit)) (now (pending .exit)) ≡ crossedStart (Waits.starting «now_ms» clock (flagOf limited) timeout (now (breaker .entry)) (now (list .entry)) (pendingBy (now (pending .entry)))) (now (pending .entry)) ⌝ }
+    ensures { λ r. ⌜
+        crossingWait r (now (breaker .exit)) (now (list .exit)) (now (pending .exit))
+        ≡ crossedStart
+        (Waits.starting «now_ms» clock (flagOf limited) timeout (now (breaker .entry)) (now (list .entry)) (pendingBy (now (pending .entry))))
+        (now (pending .entry))
+        ⌝ }
 {
     let s = plain::wait_start(*breaker, list, *pending, now_ms, clock, limited, timeout);
     *breaker = s.breaker;
@@ -39,7 +44,11 @@ pub extern "C" fn pudvirez_wait_turn(
     now_ms: u64,
     capacity: u32,
 ) -> Waited
-    ensures { λ r. ⌜ crossingWait r (now (breaker .exit)) (now (list .exit)) (now (pending .exit)) ≡ crossedTurn (Waits.turning turn «now_ms» capacity (now (breaker .entry)) (now (list .entry)) (pendingBy (now (pending .entry)))) (now (pending .entry)) ⌝ }
+    ensures { λ r. ⌜
+        crossingWait r (now (breaker .exit)) (now (list .exit)) (now (pending .exit))
+        ≡ crossedTurn (Waits.turning turn «now_ms» capacity (now (breaker .entry)) (now (list .entry)) (pendingBy (now (pending .entry))))
+        (now (pending .entry))
+        ⌝ }
 {
     let s = plain::wait_turn(*breaker, list, *pending, turn, now_ms, capacity);
     *breaker = s.breaker;
@@ -59,7 +68,12 @@ pub extern "C" fn pudvirez_wait_run(
     now_ms: u64,
     capacity: u32,
 ) -> Waited
-    ensures { λ r. ⌜ crossingWait r (now (breaker .exit)) (now (list .exit)) (now (pending .exit)) ≡ crossedRun (Waits.running (now (turns .entry)) limit «now_ms» capacity (now (breaker .entry)) (now (list .entry)) (pendingBy (now (pending .entry)))) (now (pending .entry)) ⌝ }
+    ensures { λ r. ⌜
+        crossingWait r (now (breaker .exit)) (now (list .exit)) (now (pending .exit))
+        ≡ crossedRun
+        (Waits.running (now (turns .entry)) limit «now_ms» capacity (now (breaker .entry)) (now (list .entry)) (pendingBy (now (pending .entry))))
+        (now (pending .entry))
+        ⌝ }
 {
     let s = plain::wait_run(*breaker, list, *pending, turns, limit, now_ms, capacity);
     *breaker = s.breaker;
@@ -75,7 +89,10 @@ pub extern "C" fn pudvirez_wait_drop(
     list: &mut [u64],
     pending: &mut PlainPending,
 ) -> Waited
-    ensures { λ r. ⌜ crossingWait r (now (breaker .exit)) (now (list .exit)) (now (pending .exit)) ≡ crossedTurn (Waits.leaving (now (breaker .entry)) (now (list .entry)) (pendingBy (now (pending .entry)))) (now (pending .entry)) ⌝ }
+    ensures { λ r. ⌜
+        crossingWait r (now (breaker .exit)) (now (list .exit)) (now (pending .exit))
+        ≡ crossedTurn (Waits.leaving (now (breaker .entry)) (now (list .entry)) (pendingBy (now (pending .entry)))) (now (pending .entry))
+        ⌝ }
 {
     let s = plain::wait_drop(*breaker, list, *pending);
     *breaker = s.breaker;

@@ -35,8 +35,16 @@ fn finish_each(
     answers: &mut [u64],
 ) -> Breaker
     requires { ⌜ sound start (now list) ≡ true ⌝ }
-    requires { ⌜ (length (now probes) ≡ length (now generations)) × (length (now settles) ≡ length (now generations)) × (length (now marks) ≡ length (now generations)) × (length (now answers) ≡ length (now generations)) ⌝ }
-    ensures { λ r. ⌜ batch (after (finishedTold Finished.Done) r (now (list .exit))) (now (answers .exit)) ≡ (let ran = inTurn «now_ms» start (now (list .entry)) (calls (slices (now (generations .entry)) (now (probes .entry)) (now (settles .entry)) (now (marks .entry)))) in batch (kept (start .config) (done (ran .after))) (numbers (ran .answers))) ⌝ }
+    requires { ⌜
+        (length (now probes) ≡ length (now generations)) × (length (now settles) ≡ length (now generations))
+        × (length (now marks) ≡ length (now generations)) × (length (now answers) ≡ length (now generations))
+        ⌝ }
+    ensures { λ r. ⌜
+        batch (after (finishedTold Finished.Done) r (now (list .exit))) (now (answers .exit))
+        ≡
+        (let ran = inTurn «now_ms» start (now (list .entry)) (calls (slices (now (generations .entry)) (now (probes .entry)) (now (settles .entry)) (now (marks .entry)))) in
+        batch (kept (start .config) (done (ran .after))) (numbers (ran .answers)))
+        ⌝ }
 {
     let mut b = start;
     let mut i: usize = 0;
@@ -88,8 +96,14 @@ pub fn finish_all(
     marks: &[u8],
     answers: &mut [u64],
 ) -> Settled
-    ensures { λ r. ⌜ batch (after (finishedTold (r .answer)) (r .breaker) (now (list .exit))) (now (answers .exit)) ≡ finishedAll «now_ms» (slices (now (generations .entry)) (now (probes .entry)) (now (settles .entry)) (now (marks .entry))) breaker (now (list .entry)) (now (answers .entry)) ⌝ }
-    ensures orders { λ _. ⌜ (sound breaker (now (list .entry)) ≡ true → breaker .shared .state ≡ HalfOpen → FinishingOrders «now_ms» breaker (now (list .entry))) ⌝ }
+    ensures { λ r. ⌜
+        batch (after (finishedTold (r .answer)) (r .breaker) (now (list .exit))) (now (answers .exit))
+        ≡ finishedAll «now_ms» (slices (now (generations .entry)) (now (probes .entry)) (now (settles .entry)) (now (marks .entry))) breaker
+        (now (list .entry)) (now (answers .entry))
+        ⌝ }
+    ensures orders { λ _. ⌜
+        (sound breaker (now (list .entry)) ≡ true → breaker .shared .state ≡ HalfOpen → FinishingOrders «now_ms» breaker (now (list .entry)))
+        ⌝ }
 {
     let n = generations.len();
     if probes.len() != n {

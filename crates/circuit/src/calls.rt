@@ -29,7 +29,9 @@ pub fn settle(
     ticket: Ticket,
     success: bool,
 ) -> Settled
-    ensures { λ r. ⌜ after (finishedTold (r .answer)) (r .breaker) (now (list .exit)) ≡ onSound (Calls.settle «now_ms» ticket success) breaker (now (list .entry)) ⌝ }
+    ensures { λ r. ⌜
+        after (finishedTold (r .answer)) (r .breaker) (now (list .exit)) ≡ onSound (Calls.settle «now_ms» ticket success) breaker (now (list .entry))
+        ⌝ }
 {
     match test(breaker, list) {
         Tested::Refused(r) => Settled {
@@ -43,7 +45,9 @@ pub fn settle(
 // Gives an admission back without an outcome, through the trait side or not.
 // Ruled out: a trait abort that leaves the trait probes; an abort of a stale probe.
 pub fn abort_as(breaker: Breaker, list: &mut [u64], ticket: Ticket, via_trait: bool) -> Settled
-    ensures { λ r. ⌜ after (finishedTold (r .answer)) (r .breaker) (now (list .exit)) ≡ onSound (Calls.abortAs ticket «via_trait») breaker (now (list .entry)) ⌝ }
+    ensures { λ r. ⌜
+        after (finishedTold (r .answer)) (r .breaker) (now (list .exit)) ≡ onSound (Calls.abortAs ticket «via_trait») breaker (now (list .entry))
+        ⌝ }
 {
     match test(breaker, list) {
         Tested::Refused(r) => Settled {
@@ -60,7 +64,10 @@ pub fn abort_as(breaker: Breaker, list: &mut [u64], ticket: Ticket, via_trait: b
 // Frees one trial that was taken through the trait side.
 // Ruled out: one that frees a plain probe; one that frees all trait probes.
 pub fn release_trait_probe(breaker: Breaker, list: &mut [u64]) -> Settled
-    ensures { λ r. ⌜ after (finishedTold (r .answer)) (r .breaker) (now (list .exit)) ≡ onSound (λ s st. Rules.done (Rules.released st)) breaker (now (list .entry)) ⌝ }
+    ensures { λ r. ⌜
+        after (finishedTold (r .answer)) (r .breaker) (now (list .exit))
+        ≡ onSound (λ s st. Rules.done (Rules.released st)) breaker (now (list .entry))
+        ⌝ }
 {
     match test(breaker, list) {
         Tested::Refused(r) => Settled {
@@ -77,7 +84,10 @@ pub fn release_trait_probe(breaker: Breaker, list: &mut [u64]) -> Settled
 // Reports an outcome without a ticket.
 // Ruled out: one that frees a probe it did not use up; one that uses up two.
 pub fn record_manual(breaker: Breaker, list: &mut [u64], now_ms: u64, success: bool) -> Settled
-    ensures { λ r. ⌜ after (finishedTold (r .answer)) (r .breaker) (now (list .exit)) ≡ onSound (λ s st. Rules.manual s «now_ms» success st) breaker (now (list .entry)) ⌝ }
+    ensures { λ r. ⌜
+        after (finishedTold (r .answer)) (r .breaker) (now (list .exit))
+        ≡ onSound (λ s st. Rules.manual s «now_ms» success st) breaker (now (list .entry))
+        ⌝ }
 {
     match test(breaker, list) {
         Tested::Refused(r) => Settled {

@@ -16,14 +16,18 @@ use steps::abort_locked;
 
 // Ruled out: a success counted as a failure; one that needs a probe.
 pub fn permit_success(breaker: Breaker, list: &mut [u64], now_ms: u64, ticket: Ticket) -> Settled
-    ensures { λ r. ⌜ after (finishedTold (r .answer)) (r .breaker) (now (list .exit)) ≡ onSound (Calls.settle «now_ms» ticket true) breaker (now (list .entry)) ⌝ }
+    ensures { λ r. ⌜
+        after (finishedTold (r .answer)) (r .breaker) (now (list .exit)) ≡ onSound (Calls.settle «now_ms» ticket true) breaker (now (list .entry))
+        ⌝ }
 {
     settle(breaker, list, now_ms, ticket, true)
 }
 
 // Ruled out: a failure counted as a success; one that ignores the reading.
 pub fn permit_failure(breaker: Breaker, list: &mut [u64], now_ms: u64, ticket: Ticket) -> Settled
-    ensures { λ r. ⌜ after (finishedTold (r .answer)) (r .breaker) (now (list .exit)) ≡ onSound (Calls.settle «now_ms» ticket false) breaker (now (list .entry)) ⌝ }
+    ensures { λ r. ⌜
+        after (finishedTold (r .answer)) (r .breaker) (now (list .exit)) ≡ onSound (Calls.settle «now_ms» ticket false) breaker (now (list .entry))
+        ⌝ }
 {
     settle(breaker, list, now_ms, ticket, false)
 }
@@ -31,7 +35,9 @@ pub fn permit_failure(breaker: Breaker, list: &mut [u64], now_ms: u64, ticket: T
 // A permit that was dropped unsettled: a failure.
 // Ruled out: a drop that records nothing; one that aborts.
 pub fn permit_dropped(breaker: Breaker, list: &mut [u64], now_ms: u64, ticket: Ticket) -> Settled
-    ensures { λ r. ⌜ after (finishedTold (r .answer)) (r .breaker) (now (list .exit)) ≡ onSound (Calls.settle «now_ms» ticket false) breaker (now (list .entry)) ⌝ }
+    ensures { λ r. ⌜
+        after (finishedTold (r .answer)) (r .breaker) (now (list .exit)) ≡ onSound (Calls.settle «now_ms» ticket false) breaker (now (list .entry))
+        ⌝ }
 {
     settle(breaker, list, now_ms, ticket, false)
 }

@@ -60,23 +60,30 @@ crossedAll x = crossings (crossed (x .left)) (x .answers)
 abbrev pub ticketBy : PlainTicket → Ticket
 ticketBy t = record { generation = t .generation; probe = flagOf (t .probe) }
 
--- ---- replies of the inner limiter that come in
+-- ---- the kinds that come in: which are known
 
--- a reply or a policy has a kind of 1 to 3
-abbrev pub known : ℕ → Bool
-known kind = leb 1 kind && leb kind 3
+-- of an inner limiter's reply: 1 acquired, 2 retry, 3 impossible
+abbrev pub isReply : ℕ → Bool
+isReply kind = leb 1 kind && leb kind 3
 
--- 1 acquired, 2 retry after so many milliseconds, 3 impossible
+-- of its reply to a reservation, as of the answer: 0 none, 1 a wait
+abbrev pub reservable : ℕ → Bool
+reservable kind = leb kind 1
+
+-- of a setting's policy, as of the record: 1 Consecutive, 2 Ratio, 3 Windowed
+abbrev pub isPolicy : ℕ → Bool
+isPolicy kind = leb 1 kind && leb kind 3
+
+-- ---- replies of the inner limiter
+
+-- by its kind, and for a retry its milliseconds
 abbrev pub decisionBy : ℕ → ℕ → Decision
 decisionBy kind ms =
     if eqb kind 1 then Acquired
     else if eqb kind 2 then Retry (delayOf ms)
     else Impossible
 
--- a reservation's kinds are those of its answer: 1 a wait of so many milliseconds, 0 none
-abbrev pub reservable : ℕ → Bool
-reservable kind = leb kind 1
-
+-- 1 a wait of so many milliseconds, 0 none
 abbrev pub reservationBy : ℕ → ℕ → Reservation
 reservationBy kind ms = if eqb kind 1 then Wait (delayOf ms) else Nothing
 
@@ -89,7 +96,7 @@ askedReply ok rule b s = if ok then asked rule b s else guarded refused (refused
 
 -- ---- a setting that comes in
 
--- the policy of a kind: 1 Consecutive, 2 Ratio, 3 Windowed; the numbers of another policy are not read
+-- by its kind; the numbers of another policy are not read
 abbrev pub tripBy : Setting → Trip
 tripBy x =
     if eqb (x .kind) 1 then Consecutive (x .limit)
@@ -112,5 +119,5 @@ unknownPolicy s = if not (eqb (length s) 4096) then refused Storage else refused
 -- making a breaker: an unknown kind is refused before what the builder refuses; refused it leaves all as it was
 unfoldable pub builtBy : Setting → Breaker → List ℕ → After
 builtBy x b s =
-    if known (x .kind) then built (builderBy x) b s
+    if isPolicy (x .kind) then built (builderBy x) b s
     else after (unknownPolicy s) b s

@@ -1,4 +1,5 @@
 // What crosses to C: the structs of plain numbers, what those that come in mean, and each answer as such numbers.
+mod codes;
 mod reply;
 mod settings;
 mod tell;
@@ -6,11 +7,12 @@ mod tell_wait;
 mod ticket;
 
 pub use reply::decision_by;
-pub use reply::is_known;
+pub use reply::is_reply;
 pub use reply::is_reservable;
 pub use reply::reservation_by;
 pub use reply::tell_unknown;
 pub use settings::builder_by;
+pub use settings::is_policy;
 pub use settings::tell_unknown_policy;
 pub use tell::tell_admission;
 pub use tell::tell_counted;

@@ -3,8 +3,12 @@ ghost use mathlib.Core.Path.{_≡_};
 ghost use Rattle.error.specs.Told.{refused};
 ghost use Rattle.error.specs.declared.Refusal.the-variants.{Turn};
 ghost use Rattle.breaker.specs.Calls.{guarded};
-ghost use Rattle.crossing.specs.Crossing.{packed, known, decisionBy, reservable, reservationBy};
+ghost use Rattle.crossing.specs.Crossing.{packed, isReply, decisionBy, reservable, reservationBy};
 use crate::Told;
+use crate::codes::REPLY_ACQUIRED;
+use crate::codes::REPLY_IMPOSSIBLE;
+use crate::codes::REPLY_RETRY;
+use crate::codes::RESERVED_WAIT;
 use crate::tell::tell_refusal;
 use breaker::Breaker;
 use breaker::Decision;
@@ -14,15 +18,15 @@ use breaker::delayed;
 use breaker::test;
 use error::Refusal;
 
-// Whether the kind is one of 1 to 3.
+// Whether an inner limiter's reply has this kind.
 // Ruled out: a kind of 0 taken; a kind of 4 taken.
-pub fn is_known(kind: u8) -> bool
-    ensures { λ r. ⌜ r ≡ known kind ⌝ }
+pub fn is_reply(kind: u8) -> bool
+    ensures { λ r. ⌜ r ≡ isReply kind ⌝ }
 {
-    if kind < 1 {
+    if kind < REPLY_ACQUIRED {
         return false;
     }
-    kind <= 3
+    kind <= REPLY_IMPOSSIBLE
 }
 
 // What an inner limiter replied: a kind of 1 to 3, and the milliseconds of a retry.
@@ -30,10 +34,10 @@ pub fn is_known(kind: u8) -> bool
 pub fn decision_by(kind: u8, ms: u64) -> Decision
     ensures { λ r. ⌜ r ≡ decisionBy kind ms ⌝ }
 {
-    if kind == 1 {
+    if kind == REPLY_ACQUIRED {
         return Decision::Acquired;
     }
-    if kind == 2 {
+    if kind == REPLY_RETRY {
         return Decision::Retry(delayed(ms));
     }
     Decision::Impossible
@@ -44,7 +48,7 @@ pub fn decision_by(kind: u8, ms: u64) -> Decision
 pub fn is_reservable(kind: u8) -> bool
     ensures { λ r. ⌜ r ≡ reservable kind ⌝ }
 {
-    kind <= 1
+    kind <= RESERVED_WAIT
 }
 
 // What an inner limiter replied to a reservation: 1 a wait of so many milliseconds, 0 none.
@@ -52,7 +56,7 @@ pub fn is_reservable(kind: u8) -> bool
 pub fn reservation_by(kind: u8, ms: u64) -> Reservation
     ensures { λ r. ⌜ r ≡ reservationBy kind ms ⌝ }
 {
-    if kind == 1 {
+    if kind == RESERVED_WAIT {
         return Reservation::Wait(delayed(ms));
     }
     Reservation::Nothing

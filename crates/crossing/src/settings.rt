@@ -1,22 +1,36 @@
 // A setting that comes in, as the builder it stands for.
 ghost use mathlib.Core.Path.{_≡_};
-ghost use Rattle.crossing.specs.Crossing.{packed, tripBy, builderBy, unknownPolicy};
+ghost use Rattle.crossing.specs.Crossing.{packed, isPolicy, tripBy, builderBy, unknownPolicy};
 use crate::Setting;
 use crate::Told;
 use crate::tell::tell_refusal;
-use history::PLACES;
 use error::Refusal;
+use history::PLACES;
 use trip::CircuitBreakerBuilder;
 use trip::Duration;
+use trip::POLICY_CONSECUTIVE;
+use trip::POLICY_RATIO;
+use trip::POLICY_WINDOWED;
 use trip::Trip;
+
+// Whether a policy has this kind.
+// Ruled out: a kind of 0 taken; a kind of 4 taken.
+pub fn is_policy(kind: u8) -> bool
+    ensures { λ r. ⌜ r ≡ isPolicy kind ⌝ }
+{
+    if kind < POLICY_CONSECUTIVE {
+        return false;
+    }
+    kind <= POLICY_WINDOWED
+}
 
 fn trip_by(setting: Setting) -> Trip
     ensures { λ r. ⌜ r ≡ tripBy setting ⌝ }
 {
-    if setting.kind == 1 {
+    if setting.kind == POLICY_CONSECUTIVE {
         return Trip::Consecutive(setting.limit);
     }
-    if setting.kind == 2 {
+    if setting.kind == POLICY_RATIO {
         return Trip::Ratio {
             window: setting.limit,
             ratio: setting.ratio,

@@ -4,6 +4,14 @@ ghost use Rattle.error.specs.Told.{refused};
 ghost use Rattle.breaker.specs.Answers.{admissionTold, finishedTold, triedTold, standingTold, noticeTold, decidedTold, reservedTold, countedTold};
 ghost use Rattle.crossing.specs.Crossing.{packed};
 use crate::Told;
+use crate::codes::REPLY_ACQUIRED;
+use crate::codes::REPLY_IMPOSSIBLE;
+use crate::codes::REPLY_RETRY;
+use crate::codes::RESERVED_NOTHING;
+use crate::codes::RESERVED_WAIT;
+use crate::codes::TOLD_IMPOSSIBLE;
+use crate::codes::TOLD_RETRY;
+use crate::codes::TOLD_SHED;
 use crate::ticket::flag;
 use breaker::Admission;
 use breaker::Counted;
@@ -57,7 +65,7 @@ pub fn tell_admission(answer: Admission) -> Told
             v3: 0,
         },
         Admission::Shed(d) => Told {
-            number: 6,
+            number: TOLD_SHED,
             v1: d.ms,
             v2: 0,
             v3: 0,
@@ -79,19 +87,19 @@ pub fn tell_tried(answer: Tried) -> Told
             v3: 0,
         },
         Tried::Shed(d) => Told {
-            number: 6,
+            number: TOLD_SHED,
             v1: d.ms,
             v2: 0,
             v3: 0,
         },
         Tried::Retry => Told {
-            number: 7,
+            number: TOLD_RETRY,
             v1: 0,
             v2: 0,
             v3: 0,
         },
         Tried::Impossible { cost, capacity } => Told {
-            number: 8,
+            number: TOLD_IMPOSSIBLE,
             v1: cost as u64,
             v2: capacity as u64,
             v3: 0,
@@ -113,7 +121,7 @@ pub fn tell_standing(answer: Standing) -> Told
             v3: 0,
         },
         Standing::Shed(d) => Told {
-            number: 6,
+            number: TOLD_SHED,
             v1: d.ms,
             v2: 0,
             v3: 0,
@@ -144,19 +152,19 @@ fn tell_decision(d: Decision) -> Told
     match d {
         Decision::Acquired => Told {
             number: 0,
-            v1: 1,
+            v1: REPLY_ACQUIRED as u64,
             v2: 0,
             v3: 0,
         },
         Decision::Retry(delay) => Told {
             number: 0,
-            v1: 2,
+            v1: REPLY_RETRY as u64,
             v2: delay.ms,
             v3: 0,
         },
         Decision::Impossible => Told {
             number: 0,
-            v1: 3,
+            v1: REPLY_IMPOSSIBLE as u64,
             v2: 0,
             v3: 0,
         },
@@ -180,13 +188,13 @@ fn tell_reservation(w: Reservation) -> Told
     match w {
         Reservation::Wait(delay) => Told {
             number: 0,
-            v1: 1,
+            v1: RESERVED_WAIT as u64,
             v2: delay.ms,
             v3: 0,
         },
         Reservation::Nothing => Told {
             number: 0,
-            v1: 0,
+            v1: RESERVED_NOTHING as u64,
             v2: 0,
             v3: 0,
         },

@@ -5,6 +5,15 @@ ghost use Rattle.wait.specs.Answers.{actValues, droppedTold};
 ghost use Rattle.waiting.specs.Answers.{begunTold, completedTold, awaitedTold, courseTold};
 ghost use Rattle.crossing.specs.Waits.{packedWait};
 use crate::Waited;
+use crate::codes::ADMITTED;
+use crate::codes::LOOK_AGAIN;
+use crate::codes::SLEEP;
+use crate::codes::SLEEP_UNLESS_RESUMED;
+use crate::codes::TOLD_DEADLINE;
+use crate::codes::TOLD_IMPOSSIBLE;
+use crate::codes::TOLD_SHED;
+use crate::codes::TOLD_UNFINISHED;
+use crate::codes::YIELD;
 use crate::ticket::flag;
 use error::Refusal;
 use wait::Act;
@@ -42,7 +51,7 @@ pub fn tell_begun(answer: Begun) -> Waited
             taken: 0,
         },
         Begun::Shed(d) => Waited {
-            number: 6,
+            number: TOLD_SHED,
             v1: d.ms,
             v2: 0,
             v3: 0,
@@ -60,14 +69,14 @@ fn tell_completed(end: Completed, taken: u64) -> Waited
     match end {
         Completed::Admitted(t) => Waited {
             number: 0,
-            v1: 0,
+            v1: ADMITTED,
             v2: t.generation,
             v3: flag(t.probe) as u64,
             v4: 0,
             taken,
         },
         Completed::Shed(d, refund) => Waited {
-            number: 6,
+            number: TOLD_SHED,
             v1: d.ms,
             v2: refund,
             v3: 0,
@@ -75,7 +84,7 @@ fn tell_completed(end: Completed, taken: u64) -> Waited
             taken,
         },
         Completed::Impossible(cost, capacity) => Waited {
-            number: 8,
+            number: TOLD_IMPOSSIBLE,
             v1: cost,
             v2: capacity,
             v3: 0,
@@ -83,7 +92,7 @@ fn tell_completed(end: Completed, taken: u64) -> Waited
             taken,
         },
         Completed::Deadline(back) => Waited {
-            number: 9,
+            number: TOLD_DEADLINE,
             v1: back,
             v2: 0,
             v3: 0,
@@ -100,7 +109,7 @@ fn tell_act(act: Act) -> Waited
     match act {
         Act::Sleep(nanos) => Waited {
             number: 0,
-            v1: 1,
+            v1: SLEEP,
             v2: nanos,
             v3: 0,
             v4: 0,
@@ -108,7 +117,7 @@ fn tell_act(act: Act) -> Waited
         },
         Act::SleepUnlessResumed(nanos, epoch) => Waited {
             number: 0,
-            v1: 2,
+            v1: SLEEP_UNLESS_RESUMED,
             v2: nanos,
             v3: epoch,
             v4: 0,
@@ -116,7 +125,7 @@ fn tell_act(act: Act) -> Waited
         },
         Act::Yield => Waited {
             number: 0,
-            v1: 3,
+            v1: YIELD,
             v2: 0,
             v3: 0,
             v4: 0,
@@ -124,7 +133,7 @@ fn tell_act(act: Act) -> Waited
         },
         Act::LookAgain => Waited {
             number: 0,
-            v1: 4,
+            v1: LOOK_AGAIN,
             v2: 0,
             v3: 0,
             v4: 0,
@@ -153,7 +162,7 @@ pub fn tell_course(course: Course, taken: u64) -> Waited
     match course {
         Course::Ends(end) => tell_completed(end, taken),
         Course::Unfinished => Waited {
-            number: 10,
+            number: TOLD_UNFINISHED,
             v1: 0,
             v2: 0,
             v3: 0,

@@ -47,7 +47,10 @@ pub fn build(breaker: &mut Breaker, list: &mut [u64], builder: CircuitBreakerBui
 // Admits a call, through the trait side or not, or sheds it with a delay.
 // Ruled out: a probe whose record is not stored; one that grants generation 0 to all.
 pub fn admit_as(breaker: &mut Breaker, list: &mut [u64], now_ms: u64, via_trait: bool) -> Admission
-    ensures { λ r. ⌜ after (admissionTold r) (now (breaker .exit)) (now (list .exit)) ≡ onSound (Calls.admission «via_trait» «now_ms») (now (breaker .entry)) (now (list .entry)) ⌝ }
+    ensures { λ r. ⌜
+        after (admissionTold r) (now (breaker .exit)) (now (list .exit))
+        ≡ onSound (Calls.admission «via_trait» «now_ms») (now (breaker .entry)) (now (list .entry))
+        ⌝ }
 {
     let s = admission::admit_as(*breaker, list, now_ms, via_trait);
     *breaker = s.breaker;
@@ -63,7 +66,10 @@ pub fn try_admit(
     inner: Decision,
     capacity: u32,
 ) -> Tried
-    ensures { λ r. ⌜ after (triedTold r) (now (breaker .exit)) (now (list .exit)) ≡ onSound (Calls.tryAdmit inner capacity «now_ms») (now (breaker .entry)) (now (list .entry)) ⌝ }
+    ensures { λ r. ⌜
+        after (triedTold r) (now (breaker .exit)) (now (list .exit))
+        ≡ onSound (Calls.tryAdmit inner capacity «now_ms») (now (breaker .entry)) (now (list .entry))
+        ⌝ }
 {
     let s = admission::try_admit(*breaker, list, now_ms, inner, capacity);
     *breaker = s.breaker;
@@ -79,7 +85,10 @@ pub fn settle(
     ticket: Ticket,
     success: bool,
 ) -> Finished
-    ensures { λ r. ⌜ after (finishedTold r) (now (breaker .exit)) (now (list .exit)) ≡ onSound (Calls.settle «now_ms» ticket success) (now (breaker .entry)) (now (list .entry)) ⌝ }
+    ensures { λ r. ⌜
+        after (finishedTold r) (now (breaker .exit)) (now (list .exit))
+        ≡ onSound (Calls.settle «now_ms» ticket success) (now (breaker .entry)) (now (list .entry))
+        ⌝ }
 {
     let s = circuit::settle(*breaker, list, now_ms, ticket, success);
     *breaker = s.breaker;
@@ -94,7 +103,10 @@ pub fn abort_as(
     ticket: Ticket,
     via_trait: bool,
 ) -> Finished
-    ensures { λ r. ⌜ after (finishedTold r) (now (breaker .exit)) (now (list .exit)) ≡ onSound (Calls.abortAs ticket «via_trait») (now (breaker .entry)) (now (list .entry)) ⌝ }
+    ensures { λ r. ⌜
+        after (finishedTold r) (now (breaker .exit)) (now (list .exit))
+        ≡ onSound (Calls.abortAs ticket «via_trait») (now (breaker .entry)) (now (list .entry))
+        ⌝ }
 {
     let s = circuit::abort_as(*breaker, list, ticket, via_trait);
     *breaker = s.breaker;
@@ -104,7 +116,10 @@ pub fn abort_as(
 // Frees one trial that was taken through the trait side.
 // Ruled out: one that frees a plain probe; one that acts outside HalfOpen.
 pub fn release_trait_probe(breaker: &mut Breaker, list: &mut [u64]) -> Finished
-    ensures { λ r. ⌜ after (finishedTold r) (now (breaker .exit)) (now (list .exit)) ≡ onSound (λ s st. Rules.done (Rules.released st)) (now (breaker .entry)) (now (list .entry)) ⌝ }
+    ensures { λ r. ⌜
+        after (finishedTold r) (now (breaker .exit)) (now (list .exit))
+        ≡ onSound (λ s st. Rules.done (Rules.released st)) (now (breaker .entry)) (now (list .entry))
+        ⌝ }
 {
     let s = circuit::release_trait_probe(*breaker, list);
     *breaker = s.breaker;
@@ -119,7 +134,10 @@ pub fn record_manual(
     now_ms: u64,
     success: bool,
 ) -> Finished
-    ensures { λ r. ⌜ after (finishedTold r) (now (breaker .exit)) (now (list .exit)) ≡ onSound (λ s st. Rules.manual s «now_ms» success st) (now (breaker .entry)) (now (list .entry)) ⌝ }
+    ensures { λ r. ⌜
+        after (finishedTold r) (now (breaker .exit)) (now (list .exit))
+        ≡ onSound (λ s st. Rules.manual s «now_ms» success st) (now (breaker .entry)) (now (list .entry))
+        ⌝ }
 {
     let s = circuit::record_manual(*breaker, list, now_ms, success);
     *breaker = s.breaker;
@@ -129,7 +147,9 @@ pub fn record_manual(
 // Forces the breaker Closed and empties its history.
 // Ruled out: a list emptied and a record kept; open-until set to 0.
 pub fn reset(breaker: &mut Breaker, list: &mut [u64]) -> Finished
-    ensures { λ r. ⌜ after (finishedTold r) (now (breaker .exit)) (now (list .exit)) ≡ onSound (λ s st. Rules.reset st) (now (breaker .entry)) (now (list .entry)) ⌝ }
+    ensures { λ r. ⌜
+        after (finishedTold r) (now (breaker .exit)) (now (list .exit)) ≡ onSound (λ s st. Rules.reset st) (now (breaker .entry)) (now (list .entry))
+        ⌝ }
 {
     let s = circuit::reset(*breaker, list);
     *breaker = s.breaker;
@@ -144,7 +164,10 @@ pub fn permit_success(
     now_ms: u64,
     ticket: Ticket,
 ) -> Finished
-    ensures { λ r. ⌜ after (finishedTold r) (now (breaker .exit)) (now (list .exit)) ≡ onSound (Calls.settle «now_ms» ticket true) (now (breaker .entry)) (now (list .entry)) ⌝ }
+    ensures { λ r. ⌜
+        after (finishedTold r) (now (breaker .exit)) (now (list .exit))
+        ≡ onSound (Calls.settle «now_ms» ticket true) (now (breaker .entry)) (now (list .entry))
+        ⌝ }
 {
     let s = circuit::permit_success(*breaker, list, now_ms, ticket);
     *breaker = s.breaker;
@@ -159,7 +182,10 @@ pub fn permit_failure(
     now_ms: u64,
     ticket: Ticket,
 ) -> Finished
-    ensures { λ r. ⌜ after (finishedTold r) (now (breaker .exit)) (now (list .exit)) ≡ onSound (Calls.settle «now_ms» ticket false) (now (breaker .entry)) (now (list .entry)) ⌝ }
+    ensures { λ r. ⌜
+        after (finishedTold r) (now (breaker .exit)) (now (list .exit))
+        ≡ onSound (Calls.settle «now_ms» ticket false) (now (breaker .entry)) (now (list .entry))
+        ⌝ }
 {
     let s = circuit::permit_failure(*breaker, list, now_ms, ticket);
     *breaker = s.breaker;
@@ -174,7 +200,10 @@ pub fn permit_dropped(
     now_ms: u64,
     ticket: Ticket,
 ) -> Finished
-    ensures { λ r. ⌜ after (finishedTold r) (now (breaker .exit)) (now (list .exit)) ≡ onSound (Calls.settle «now_ms» ticket false) (now (breaker .entry)) (now (list .entry)) ⌝ }
+    ensures { λ r. ⌜
+        after (finishedTold r) (now (breaker .exit)) (now (list .exit))
+        ≡ onSound (Calls.settle «now_ms» ticket false) (now (breaker .entry)) (now (list .entry))
+        ⌝ }
 {
     let s = circuit::permit_dropped(*breaker, list, now_ms, ticket);
     *breaker = s.breaker;
@@ -184,7 +213,9 @@ pub fn permit_dropped(
 // Gives the admission back, with a notice to refund 1 to the inner limiter.
 // Ruled out: no notice for a stale ticket; an outcome recorded.
 pub fn permit_cancel(breaker: &mut Breaker, list: &mut [u64], ticket: Ticket) -> Notice
-    ensures { λ r. ⌜ after (noticeTold r) (now (breaker .exit)) (now (list .exit)) ≡ onSound (Calls.cancel ticket) (now (breaker .entry)) (now (list .entry)) ⌝ }
+    ensures { λ r. ⌜
+        after (noticeTold r) (now (breaker .exit)) (now (list .exit)) ≡ onSound (Calls.cancel ticket) (now (breaker .entry)) (now (list .entry))
+        ⌝ }
 {
     let s = circuit::permit_cancel(*breaker, list, ticket);
     *breaker = s.breaker;
@@ -199,7 +230,10 @@ pub fn acquire_cost(
     now_ms: u64,
     inner: Decision,
 ) -> Decided
-    ensures { λ r. ⌜ after (decidedTold r) (now (breaker .exit)) (now (list .exit)) ≡ onSound (Calls.acquireCost inner «now_ms») (now (breaker .entry)) (now (list .entry)) ⌝ }
+    ensures { λ r. ⌜
+        after (decidedTold r) (now (breaker .exit)) (now (list .exit))
+        ≡ onSound (Calls.acquireCost inner «now_ms») (now (breaker .entry)) (now (list .entry))
+        ⌝ }
 {
     let s = admission::acquire_cost(*breaker, list, now_ms, inner);
     *breaker = s.breaker;
@@ -209,7 +243,10 @@ pub fn acquire_cost(
 // Reserves through the trait side, with the inner limiter's reply.
 // Ruled out: a shed that hands on the inner wait; a probe kept without a reservation.
 pub fn reserve(breaker: &mut Breaker, list: &mut [u64], now_ms: u64, inner: Reservation) -> Reserved
-    ensures { λ r. ⌜ after (reservedTold r) (now (breaker .exit)) (now (list .exit)) ≡ onSound (Calls.reserve inner «now_ms») (now (breaker .entry)) (now (list .entry)) ⌝ }
+    ensures { λ r. ⌜
+        after (reservedTold r) (now (breaker .exit)) (now (list .exit))
+        ≡ onSound (Calls.reserve inner «now_ms») (now (breaker .entry)) (now (list .entry))
+        ⌝ }
 {
     let s = admission::reserve(*breaker, list, now_ms, inner);
     *breaker = s.breaker;
@@ -240,8 +277,15 @@ pub fn finish_all(
     marks: &[u8],
     answers: &mut [u64],
 ) -> Finished
-    ensures { λ r. ⌜ batch (after (finishedTold r) (now (breaker .exit)) (now (list .exit))) (now (answers .exit)) ≡ finishedAll «now_ms» (slices (now (generations .entry)) (now (probes .entry)) (now (settles .entry)) (now (marks .entry))) (now (breaker .entry)) (now (list .entry)) (now (answers .entry)) ⌝ }
-    ensures orders { λ _. ⌜ (sound (now (breaker .entry)) (now (list .entry)) ≡ true → now (breaker .entry) .shared .state ≡ HalfOpen → FinishingOrders «now_ms» (now (breaker .entry)) (now (list .entry))) ⌝ }
+    ensures { λ r. ⌜
+        batch (after (finishedTold r) (now (breaker .exit)) (now (list .exit))) (now (answers .exit))
+        ≡ finishedAll «now_ms» (slices (now (generations .entry)) (now (probes .entry)) (now (settles .entry)) (now (marks .entry)))
+        (now (breaker .entry)) (now (list .entry)) (now (answers .entry))
+        ⌝ }
+    ensures orders { λ _. ⌜
+        (sound (now (breaker .entry)) (now (list .entry)) ≡ true → now (breaker .entry) .shared .state ≡ HalfOpen
+        → FinishingOrders «now_ms» (now (breaker .entry)) (now (list .entry)))
+        ⌝ }
 {
     let s = circuit::finish_all(
         *breaker,
@@ -270,7 +314,10 @@ pub fn wait_start(
     limited: bool,
     timeout: u64,
 ) -> Begun
-    ensures { λ r. ⌜ pendingAfter (begunTold r) (now (breaker .exit)) (now (list .exit)) (now (pending .exit)) ≡ Waits.starting «now_ms» clock limited timeout (now (breaker .entry)) (now (list .entry)) (now (pending .entry)) ⌝ }
+    ensures { λ r. ⌜
+        pendingAfter (begunTold r) (now (breaker .exit)) (now (list .exit)) (now (pending .exit))
+        ≡ Waits.starting «now_ms» clock limited timeout (now (breaker .entry)) (now (list .entry)) (now (pending .entry))
+        ⌝ }
 {
     let s = waiting::start(*breaker, list, *pending, now_ms, clock, limited, timeout);
     *breaker = s.breaker;
@@ -288,7 +335,10 @@ pub fn wait_turn(
     now_ms: u64,
     capacity: u32,
 ) -> Awaited
-    ensures { λ r. ⌜ pendingAfter (awaitedTold r) (now (breaker .exit)) (now (list .exit)) (now (pending .exit)) ≡ Waits.turning turn «now_ms» capacity (now (breaker .entry)) (now (list .entry)) (now (pending .entry)) ⌝ }
+    ensures { λ r. ⌜
+        pendingAfter (awaitedTold r) (now (breaker .exit)) (now (list .exit)) (now (pending .exit))
+        ≡ Waits.turning turn «now_ms» capacity (now (breaker .entry)) (now (list .entry)) (now (pending .entry))
+        ⌝ }
 {
     let s = waiting::turn(*breaker, list, *pending, turn, now_ms, capacity);
     *breaker = s.breaker;
@@ -307,7 +357,10 @@ pub fn wait_run(
     now_ms: u64,
     capacity: u32,
 ) -> Progress
-    ensures { λ r. ⌜ pendingRun (pendingAfter (courseTold (r .course)) (now (breaker .exit)) (now (list .exit)) (now (pending .exit))) (r .taken) ≡ Waits.running (now (turns .entry)) limit «now_ms» capacity (now (breaker .entry)) (now (list .entry)) (now (pending .entry)) ⌝ }
+    ensures { λ r. ⌜
+        pendingRun (pendingAfter (courseTold (r .course)) (now (breaker .exit)) (now (list .exit)) (now (pending .exit))) (r .taken)
+        ≡ Waits.running (now (turns .entry)) limit «now_ms» capacity (now (breaker .entry)) (now (list .entry)) (now (pending .entry))
+        ⌝ }
 {
     let s = waiting::run(*breaker, list, *pending, turns, limit, now_ms, capacity);
     *breaker = s.breaker;
@@ -318,7 +371,10 @@ pub fn wait_run(
 // Ends a wait before its time: the ticket is given back, and a held grant is to be.
 // Ruled out: a drop whose ticket stays out; a wait that can be dropped twice.
 pub fn wait_drop(breaker: &mut Breaker, list: &mut [u64], pending: &mut Pending) -> Dropped
-    ensures { λ r. ⌜ pendingAfter (droppedTold r) (now (breaker .exit)) (now (list .exit)) (now (pending .exit)) ≡ Waits.leaving (now (breaker .entry)) (now (list .entry)) (now (pending .entry)) ⌝ }
+    ensures { λ r. ⌜
+        pendingAfter (droppedTold r) (now (breaker .exit)) (now (list .exit)) (now (pending .exit))
+        ≡ Waits.leaving (now (breaker .entry)) (now (list .entry)) (now (pending .entry))
+        ⌝ }
 {
     let s = waiting::drop_pending(*breaker, list, *pending);
     *breaker = s.breaker;

@@ -12,6 +12,9 @@ use error::Refusal;
 // The places of the storage.
 pub const PLACES: usize = 4096;
 
+// As many items as there are places.
+pub const MOST_ITEMS: u32 = 4096;
+
 // What the list of a breaker holds, by its policy.
 pub enum Items {
     // Consecutive: always empty
@@ -73,12 +76,12 @@ fn may_have(items: Items, len: u32) -> bool
             if window < 1 {
                 return false;
             }
-            if 4096 < window {
+            if MOST_ITEMS < window {
                 return false;
             }
             len <= window
         }
-        Items::Times => len <= 4096,
+        Items::Times => len <= MOST_ITEMS,
     }
 }
 

@@ -17,7 +17,7 @@ use Rattle.crossing.specs.declared.Setting.{Setting}
 use Rattle.crossing.specs.declared.PlainPending.{PlainPending}
 use Rattle.plain.specs.declared.Step.{Step}
 use Rattle.plain.specs.declared.WaitStep.{WaitStep}
-use Rattle.crossing.specs.Crossing.{packed, crossing, crossed, crossings, crossedAll, known, onReply, askedReply, builderBy, unknownPolicy, builtBy}
+use Rattle.crossing.specs.Crossing.{packed, crossing, crossed, crossings, crossedAll, isPolicy, onReply, askedReply, builderBy, unknownPolicy, builtBy}
 use Rattle.crossing.specs.Waits.{CrossingWait, crossingWait, afterStart, afterTurn, crossedStart, crossedTurn, crossedRun}
 use Rattle.plain.specs.Steps.{stepped, waitStepped}
 
@@ -69,10 +69,10 @@ module _ (ok : Bool) (b : Breaker) (s : List ℕ) where
   unknown-asked rule e = simp e
 
 module _ (x : Setting) (b : Breaker) (s : List ℕ) where
-  pub known-built : known (x .kind) ≡ true → built (builderBy x) b s ≡ builtBy x b s
+  pub known-built : isPolicy (x .kind) ≡ true → built (builderBy x) b s ≡ builtBy x b s
   unfolding builtBy
   known-built e = simp e
 
-  pub unknown-built : known (x .kind) ≡ false → after (unknownPolicy s) b s ≡ builtBy x b s
+  pub unknown-built : isPolicy (x .kind) ≡ false → after (unknownPolicy s) b s ≡ builtBy x b s
   unfolding builtBy
   unknown-built e = simp e

@@ -8,7 +8,7 @@ ghost use Rattle.breaker.specs.Calls as Calls;
 ghost use Rattle.breaker.specs.Calls.{onSound, asked};
 ghost use Rattle.breaker.specs.Orders.{FinishingOrders};
 ghost use Rattle.breaker.specs.Batch.{slices, finishedAll};
-ghost use Rattle.crossing.specs.Crossing.{packed, crossing, crossed, crossings, crossedAll, ticketBy, known, decisionBy, onReply, builtBy};
+ghost use Rattle.crossing.specs.Crossing.{packed, crossing, crossed, crossings, crossedAll, ticketBy, isReply, decisionBy, onReply, builtBy};
 use crate::Step;
 use crate::pack::pack_admitted;
 use crate::pack::pack_settled;
@@ -19,7 +19,8 @@ use crossing::Setting;
 use crossing::Told;
 use crossing::builder_by;
 use crossing::decision_by;
-use crossing::is_known;
+use crossing::is_policy;
+use crossing::is_reply;
 use crossing::tell_counted;
 use crossing::tell_standing;
 use crossing::tell_unknown;
@@ -31,7 +32,7 @@ use crossing::ticket_by;
 pub fn build(breaker: Breaker, list: &mut [u64], setting: Setting) -> Step
     ensures { λ r. ⌜ crossing (r .answer) (r .breaker) (now (list .exit)) ≡ crossed (builtBy setting breaker (now (list .entry))) ⌝ }
 {
-    if !is_known(setting.kind) {
+    if !is_policy(setting.kind) {
         return Step {
             answer: tell_unknown_policy(list),
             breaker,
@@ -44,7 +45,10 @@ pub fn build(breaker: Breaker, list: &mut [u64], setting: Setting) -> Step
 // Admits a call, through the trait side or not.
 // Ruled out: a shed told without its delay; a probe told with a flag of 0.
 pub fn admit_as(breaker: Breaker, list: &mut [u64], now_ms: u64, via_trait: u8) -> Step
-    ensures { λ r. ⌜ crossing (r .answer) (r .breaker) (now (list .exit)) ≡ crossed (onSound (Calls.admission (flagOf «via_trait») «now_ms») breaker (now (list .entry))) ⌝ }
+    ensures { λ r. ⌜
+        crossing (r .answer) (r .breaker) (now (list .exit))
+        ≡ crossed (onSound (Calls.admission (flagOf «via_trait») «now_ms») breaker (now (list .entry)))
+        ⌝ }
 {
     pack_admitted(admission::admit_as(breaker, list, now_ms, via_trait != 0))
 }
@@ -59,9 +63,12 @@ pub fn try_admit(
     inner_ms: u64,
     capacity: u32,
 ) -> Step
-    ensures { λ r. ⌜ crossing (r .answer) (r .breaker) (now (list .exit)) ≡ crossed (onReply (known «inner_kind») (Calls.tryAdmit (decisionBy «inner_kind» «inner_ms») capacity «now_ms») breaker (now (list .entry))) ⌝ }
+    ensures { λ r. ⌜
+        crossing (r .answer) (r .breaker) (now (list .exit))
+        ≡ crossed (onReply (isReply «inner_kind») (Calls.tryAdmit (decisionBy «inner_kind» «inner_ms») capacity «now_ms») breaker (now (list .entry)))
+        ⌝ }
 {
-    if !is_known(inner_kind) {
+    if !is_reply(inner_kind) {
         return Step {
             answer: tell_unknown(breaker, list),
             breaker,
@@ -80,7 +87,10 @@ pub fn settle(
     ticket: PlainTicket,
     success: u8,
 ) -> Step
-    ensures { λ r. ⌜ crossing (r .answer) (r .breaker) (now (list .exit)) ≡ crossed (onSound (Calls.settle «now_ms» (ticketBy ticket) (flagOf success)) breaker (now (list .entry))) ⌝ }
+    ensures { λ r. ⌜
+        crossing (r .answer) (r .breaker) (now (list .exit))
+        ≡ crossed (onSound (Calls.settle «now_ms» (ticketBy ticket) (flagOf success)) breaker (now (list .entry)))
+        ⌝ }
 {
     pack_settled(circuit::settle(breaker, list, now_ms, ticket_by(ticket), success != 0))
 }
@@ -88,7 +98,10 @@ pub fn settle(
 // Gives an admission back without an outcome, through the trait side or not.
 // Ruled out: a trait abort made a plain one; the record before the abort returned.
 pub fn abort_as(breaker: Breaker, list: &mut [u64], ticket: PlainTicket, via_trait: u8) -> Step
-    ensures { λ r. ⌜ crossing (r .answer) (r .breaker) (now (list .exit)) ≡ crossed (onSound (Calls.abortAs (ticketBy ticket) (flagOf «via_trait»)) breaker (now (list .entry))) ⌝ }
+    ensures { λ r. ⌜
+        crossing (r .answer) (r .breaker) (now (list .exit))
+        ≡ crossed (onSound (Calls.abortAs (ticketBy ticket) (flagOf «via_trait»)) breaker (now (list .entry)))
+        ⌝ }
 {
     pack_settled(circuit::abort_as(breaker, list, ticket_by(ticket), via_trait != 0))
 }
@@ -104,7 +117,10 @@ pub fn reset(breaker: Breaker, list: &mut [u64]) -> Step
 // Reports an outcome without a ticket.
 // Ruled out: success and failure swapped; a failure that meets 5 told 0.
 pub fn record_manual(breaker: Breaker, list: &mut [u64], now_ms: u64, success: u8) -> Step
-    ensures { λ r. ⌜ crossing (r .answer) (r .breaker) (now (list .exit)) ≡ crossed (onSound (λ s st. Rules.manual s «now_ms» (flagOf success) st) breaker (now (list .entry))) ⌝ }
+    ensures { λ r. ⌜
+        crossing (r .answer) (r .breaker) (now (list .exit))
+        ≡ crossed (onSound (λ s st. Rules.manual s «now_ms» (flagOf success) st) breaker (now (list .entry)))
+        ⌝ }
 {
     pack_settled(circuit::record_manual(breaker, list, now_ms, success != 0))
 }
@@ -112,7 +128,9 @@ pub fn record_manual(breaker: Breaker, list: &mut [u64], now_ms: u64, success: u
 // Frees one trial that was taken through the trait side.
 // Ruled out: one that frees all trait probes; the record before the release returned.
 pub fn release_trait_probe(breaker: Breaker, list: &mut [u64]) -> Step
-    ensures { λ r. ⌜ crossing (r .answer) (r .breaker) (now (list .exit)) ≡ crossed (onSound (λ s st. Rules.done (Rules.released st)) breaker (now (list .entry))) ⌝ }
+    ensures { λ r. ⌜
+        crossing (r .answer) (r .breaker) (now (list .exit)) ≡ crossed (onSound (λ s st. Rules.done (Rules.released st)) breaker (now (list .entry)))
+        ⌝ }
 {
     pack_settled(circuit::release_trait_probe(breaker, list))
 }
@@ -130,8 +148,14 @@ pub fn finish_all(
     marks: &[u8],
     answers: &mut [u64],
 ) -> Step
-    ensures { λ r. ⌜ crossings (crossing (r .answer) (r .breaker) (now (list .exit))) (now (answers .exit)) ≡ crossedAll (finishedAll «now_ms» (slices (now (generations .entry)) (now (probes .entry)) (now (settles .entry)) (now (marks .entry))) breaker (now (list .entry)) (now (answers .entry))) ⌝ }
-    ensures orders { λ _. ⌜ (sound breaker (now (list .entry)) ≡ true → breaker .shared .state ≡ HalfOpen → FinishingOrders «now_ms» breaker (now (list .entry))) ⌝ }
+    ensures { λ r. ⌜
+        crossings (crossing (r .answer) (r .breaker) (now (list .exit))) (now (answers .exit))
+        ≡ crossedAll
+        (finishedAll «now_ms» (slices (now (generations .entry)) (now (probes .entry)) (now (settles .entry)) (now (marks .entry))) breaker (now (list .entry)) (now (answers .entry)))
+        ⌝ }
+    ensures orders { λ _. ⌜
+        (sound breaker (now (list .entry)) ≡ true → breaker .shared .state ≡ HalfOpen → FinishingOrders «now_ms» breaker (now (list .entry)))
+        ⌝ }
 {
     pack_settled(circuit::finish_all(
         breaker,

@@ -2,7 +2,7 @@
 ghost use mathlib.Core.Path.{_≡_};
 ghost use Rattle.breaker.specs.Calls as Calls;
 ghost use Rattle.breaker.specs.Calls.{onSound};
-ghost use Rattle.crossing.specs.Crossing.{packed, crossing, crossed, known, decisionBy, reservable, reservationBy, onReply, askedReply};
+ghost use Rattle.crossing.specs.Crossing.{packed, crossing, crossed, isReply, decisionBy, reservable, reservationBy, onReply, askedReply};
 use crate::Step;
 use crate::pack::pack_acquisition;
 use crate::pack::pack_noticed;
@@ -10,7 +10,7 @@ use crate::pack::pack_reserving;
 use breaker::Breaker;
 use crossing::Told;
 use crossing::decision_by;
-use crossing::is_known;
+use crossing::is_reply;
 use crossing::is_reservable;
 use crossing::reservation_by;
 use crossing::tell_counted;
@@ -26,9 +26,12 @@ pub fn acquire_cost(
     inner_kind: u8,
     inner_ms: u64,
 ) -> Step
-    ensures { λ r. ⌜ crossing (r .answer) (r .breaker) (now (list .exit)) ≡ crossed (onReply (known «inner_kind») (Calls.acquireCost (decisionBy «inner_kind» «inner_ms») «now_ms») breaker (now (list .entry))) ⌝ }
+    ensures { λ r. ⌜
+        crossing (r .answer) (r .breaker) (now (list .exit))
+        ≡ crossed (onReply (isReply «inner_kind») (Calls.acquireCost (decisionBy «inner_kind» «inner_ms») «now_ms») breaker (now (list .entry)))
+        ⌝ }
 {
-    if !is_known(inner_kind) {
+    if !is_reply(inner_kind) {
         return Step {
             answer: tell_unknown(breaker, list),
             breaker,
@@ -47,7 +50,10 @@ pub fn reserve(
     inner_kind: u8,
     inner_ms: u64,
 ) -> Step
-    ensures { λ r. ⌜ crossing (r .answer) (r .breaker) (now (list .exit)) ≡ crossed (onReply (reservable «inner_kind») (Calls.reserve (reservationBy «inner_kind» «inner_ms») «now_ms») breaker (now (list .entry))) ⌝ }
+    ensures { λ r. ⌜
+        crossing (r .answer) (r .breaker) (now (list .exit))
+        ≡ crossed (onReply (reservable «inner_kind») (Calls.reserve (reservationBy «inner_kind» «inner_ms») «now_ms») breaker (now (list .entry)))
+        ⌝ }
 {
     if !is_reservable(inner_kind) {
         return Step {
@@ -70,9 +76,9 @@ pub fn refund(breaker: Breaker, list: &mut [u64], cost: u32) -> Step
 // The verdict without a transition, else the inner limiter's peek. An unknown reply is told 11, after 3 and 4.
 // Ruled out: an unknown kind told 0; a retry told without its delay.
 pub fn peek(breaker: Breaker, list: &[u64], now_ms: u64, inner_kind: u8, inner_ms: u64) -> Told
-    ensures { λ r. ⌜ r ≡ packed (askedReply (known «inner_kind») (Calls.peek (decisionBy «inner_kind» «inner_ms») «now_ms») breaker (now (list .entry))) ⌝ }
+    ensures { λ r. ⌜ r ≡ packed (askedReply (isReply «inner_kind») (Calls.peek (decisionBy «inner_kind» «inner_ms») «now_ms») breaker (now (list .entry))) ⌝ }
 {
-    if !is_known(inner_kind) {
+    if !is_reply(inner_kind) {
         return tell_unknown(breaker, list);
     }
     let inner = decision_by(inner_kind, inner_ms);
@@ -89,9 +95,12 @@ pub fn available(
     inner_ms: u64,
     count: u32,
 ) -> Told
-    ensures { λ r. ⌜ r ≡ packed (askedReply (known «inner_kind») (Calls.available (decisionBy «inner_kind» «inner_ms») count «now_ms») breaker (now (list .entry))) ⌝ }
+    ensures { λ r. ⌜
+        r
+        ≡ packed (askedReply (isReply «inner_kind») (Calls.available (decisionBy «inner_kind» «inner_ms») count «now_ms») breaker (now (list .entry)))
+        ⌝ }
 {
-    if !is_known(inner_kind) {
+    if !is_reply(inner_kind) {
         return tell_unknown(breaker, list);
     }
     let inner = decision_by(inner_kind, inner_ms);

@@ -14,7 +14,10 @@ use crossing::ticket_by;
 // Settles a permit as a success.
 // Ruled out: one that settles a failure; one that cancels.
 pub fn permit_success(breaker: Breaker, list: &mut [u64], now_ms: u64, ticket: PlainTicket) -> Step
-    ensures { λ r. ⌜ crossing (r .answer) (r .breaker) (now (list .exit)) ≡ crossed (onSound (Calls.settle «now_ms» (ticketBy ticket) true) breaker (now (list .entry))) ⌝ }
+    ensures { λ r. ⌜
+        crossing (r .answer) (r .breaker) (now (list .exit))
+        ≡ crossed (onSound (Calls.settle «now_ms» (ticketBy ticket) true) breaker (now (list .entry)))
+        ⌝ }
 {
     pack_settled(circuit::permit_success(breaker, list, now_ms, ticket_by(ticket)))
 }
@@ -22,7 +25,10 @@ pub fn permit_success(breaker: Breaker, list: &mut [u64], now_ms: u64, ticket: P
 // Settles a permit as a failure.
 // Ruled out: one that settles a success; one that settles at reading 0.
 pub fn permit_failure(breaker: Breaker, list: &mut [u64], now_ms: u64, ticket: PlainTicket) -> Step
-    ensures { λ r. ⌜ crossing (r .answer) (r .breaker) (now (list .exit)) ≡ crossed (onSound (Calls.settle «now_ms» (ticketBy ticket) false) breaker (now (list .entry))) ⌝ }
+    ensures { λ r. ⌜
+        crossing (r .answer) (r .breaker) (now (list .exit))
+        ≡ crossed (onSound (Calls.settle «now_ms» (ticketBy ticket) false) breaker (now (list .entry)))
+        ⌝ }
 {
     pack_settled(circuit::permit_failure(breaker, list, now_ms, ticket_by(ticket)))
 }
@@ -30,7 +36,10 @@ pub fn permit_failure(breaker: Breaker, list: &mut [u64], now_ms: u64, ticket: P
 // Finishes a permit that was dropped unsettled: a failure.
 // Ruled out: a dropped permit that counts as a success; one that is given back.
 pub fn permit_dropped(breaker: Breaker, list: &mut [u64], now_ms: u64, ticket: PlainTicket) -> Step
-    ensures { λ r. ⌜ crossing (r .answer) (r .breaker) (now (list .exit)) ≡ crossed (onSound (Calls.settle «now_ms» (ticketBy ticket) false) breaker (now (list .entry))) ⌝ }
+    ensures { λ r. ⌜
+        crossing (r .answer) (r .breaker) (now (list .exit))
+        ≡ crossed (onSound (Calls.settle «now_ms» (ticketBy ticket) false) breaker (now (list .entry)))
+        ⌝ }
 {
     pack_settled(circuit::permit_dropped(breaker, list, now_ms, ticket_by(ticket)))
 }

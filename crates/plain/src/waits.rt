@@ -24,7 +24,10 @@ pub fn wait_start(
     limited: u8,
     timeout: u64,
 ) -> WaitStep
-    ensures { λ r. ⌜ crossingWait (r .answer) (r .breaker) (now (list .exit)) (r .pending) ≡ crossedStart (starting «now_ms» clock (flagOf limited) timeout breaker (now (list .entry)) (pendingBy pending)) pending ⌝ }
+    ensures { λ r. ⌜
+        crossingWait (r .answer) (r .breaker) (now (list .exit)) (r .pending)
+        ≡ crossedStart (starting «now_ms» clock (flagOf limited) timeout breaker (now (list .entry)) (pendingBy pending)) pending
+        ⌝ }
 {
     let handed = pending_by(pending);
     pack_beginning(
@@ -43,7 +46,10 @@ pub fn wait_turn(
     now_ms: u64,
     capacity: u32,
 ) -> WaitStep
-    ensures { λ r. ⌜ crossingWait (r .answer) (r .breaker) (now (list .exit)) (r .pending) ≡ crossedTurn (turning turn «now_ms» capacity breaker (now (list .entry)) (pendingBy pending)) pending ⌝ }
+    ensures { λ r. ⌜
+        crossingWait (r .answer) (r .breaker) (now (list .exit)) (r .pending)
+        ≡ crossedTurn (turning turn «now_ms» capacity breaker (now (list .entry)) (pendingBy pending)) pending
+        ⌝ }
 {
     let handed = pending_by(pending);
     pack_awaiting(
@@ -63,7 +69,10 @@ pub fn wait_run(
     now_ms: u64,
     capacity: u32,
 ) -> WaitStep
-    ensures { λ r. ⌜ crossingWait (r .answer) (r .breaker) (now (list .exit)) (r .pending) ≡ crossedRun (running (now (turns .entry)) limit «now_ms» capacity breaker (now (list .entry)) (pendingBy pending)) pending ⌝ }
+    ensures { λ r. ⌜
+        crossingWait (r .answer) (r .breaker) (now (list .exit)) (r .pending)
+        ≡ crossedRun (running (now (turns .entry)) limit «now_ms» capacity breaker (now (list .entry)) (pendingBy pending)) pending
+        ⌝ }
 {
     let handed = pending_by(pending);
     pack_running(
@@ -75,7 +84,10 @@ pub fn wait_run(
 // Ends a wait before its time: the ticket is given back.
 // Ruled out: a held grant told as nothing to give back; the wait before the drop returned.
 pub fn wait_drop(breaker: Breaker, list: &mut [u64], pending: PlainPending) -> WaitStep
-    ensures { λ r. ⌜ crossingWait (r .answer) (r .breaker) (now (list .exit)) (r .pending) ≡ crossedTurn (leaving breaker (now (list .entry)) (pendingBy pending)) pending ⌝ }
+    ensures { λ r. ⌜
+        crossingWait (r .answer) (r .breaker) (now (list .exit)) (r .pending)
+        ≡ crossedTurn (leaving breaker (now (list .entry)) (pendingBy pending)) pending
+        ⌝ }
 {
     let handed = pending_by(pending);
     pack_leaving(waiting::drop_pending(breaker, list, handed), pending)

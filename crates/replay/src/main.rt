@@ -1,8 +1,10 @@
 // Replays the journal on standard input to standard output. Where that fails it says so on standard error.
 // The file stdin is document 01's case, filled to the limit, and a line more; stdout is the Rust's answer (`journal past_the_limit` of oracle/).
-ghost use Prim.Native.Nat.{_≤_};
+ghost use Prim.Native.Nat.{_+_, _<_, _^_};
+ghost use mathlib.Core.Path.{_≡_};
 ghost use lib.ListN.{length};
-ghost use Rattle.replay.specs.Reading.{Came};
+ghost use Rattle.libc.specs.Io.{Moved};
+ghost use Rattle.replay.specs.Reading.{cameAfter, Grown, Came};
 use history::PLACES;
 use journal::READ;
 use journal::ROOM;
@@ -10,16 +12,10 @@ use libc::STDERR_FILENO;
 use libc::STDIN_FILENO;
 use libc::STDOUT_FILENO;
 
-// What one read brought, and whether it failed.
-struct Part {
-    bytes: usize,
-    failed: bool,
-}
-
-// What was read: all of the input, as much of it as there is room for, or nothing to go by, as a read failed.
+// What has come: all of the input, so many bytes of it and maybe more to come, or nothing to go by, as a read failed.
 enum Input {
     Whole(usize),
-    Full(usize),
+    More(usize),
     Failed,
 }
 
@@ -35,14 +31,28 @@ fn places() -> [u64; PLACES] {
     [0; PLACES]
 }
 
-fn read_some(buf: &mut [u8]) -> Part
-    ensures { λ r. ⌜ r .bytes ≤ length (now (buf .entry)) ⌝ }
+// What has come once a read into `buf`, after n bytes, answered `got`.
+fn after(n: usize, got: isize, buf: &[u8]) -> Input
+    requires { ⌜ (n + length (now buf) < 2 ^ 64) × Moved (length (now buf)) got ⌝ }
+    ensures { λ r. ⌜ r ≡ cameAfter n got ⌝ }
+{
+    if got < 0 {
+        return Input::Failed;
+    }
+    let bytes = io::count(got, buf);
+    if bytes == 0 {
+        return Input::Whole(n);
+    }
+    Input::More(n + bytes)
+}
+
+// One read, after n bytes.
+fn read_some(buf: &mut [u8], n: usize) -> Input
+    requires { ⌜ n + length (now buf) < 2 ^ 64 ⌝ }
+    ensures { λ r. ⌜ Grown n (length (now (buf .entry))) r ⌝ }
 {
     let got = libc::read(STDIN_FILENO, buf);
-    Part {
-        bytes: io::count(got, buf),
-        failed: got < 0,
-    }
+    after(n, got, buf)
 }
 
 // Reads until the input ends, the buffer is full or a read fails.
@@ -51,16 +61,13 @@ fn read_input(buf: &mut [u8]) -> Input
 {
     let mut n: usize = 0;
     while n < buf.len() {
-        let part = read_some(&mut buf[n..]);
-        if part.failed {
-            return Input::Failed;
-        }
-        if part.bytes == 0 {
-            return Input::Whole(n);
-        }
-        n += part.bytes;
+        let came = read_some(&mut buf[n..], n);
+        let Input::More(m) = came else {
+            return came;
+        };
+        n = m;
     }
-    Input::Full(n)
+    Input::More(n)
 }
 
 fn complain(text: &[u8]) {
@@ -85,7 +92,7 @@ fn main() {
     let mut buffer = input_buffer();
     match read_input(&mut buffer) {
         Input::Whole(n) => answer(&buffer, n),
-        Input::Full(n) => answer(&buffer, n),
+        Input::More(n) => answer(&buffer, n),
         Input::Failed => complain(b"replay: standard input could not be read\n"),
     }
 }

@@ -25,6 +25,7 @@ use breaker::items_of;
 use breaker::no_counts;
 use error::Refusal;
 use history::Items;
+use history::MOST_ITEMS;
 
 // The record closed, for a list that is emptied.
 // Ruled out: a run of failures that is kept; open-until set to 0.
@@ -68,7 +69,9 @@ fn counted(change: Change, trips: bool) -> Recorded
 
 // Consecutive: the list stays empty.
 fn decide_run(b: Breaker, success: bool) -> Recorded
-    ensures { λ r. ⌜ ((c : Config) (st : State) (reading : ℕ) → b ≡ stored c st → policyOf c ≡ Consecutive (c .limit) → Decides (settings c) reading success st r) ⌝ }
+    ensures { λ r. ⌜
+        ((c : Config) (st : State) (reading : ℕ) → b ≡ stored c st → policyOf c ≡ Consecutive (c .limit) → Decides (settings c) reading success st r)
+        ⌝ }
 {
     let len = b.shared.len;
     if success {
@@ -87,7 +90,10 @@ fn decide_run(b: Breaker, success: bool) -> Recorded
 
 // Ratio: the outcome goes behind the list, and before a full window the oldest goes.
 fn decide_outcome(b: Breaker, list: &[u64], window: u32, success: bool) -> Recorded
-    ensures { λ r. ⌜ (sound b (now (list .entry)) ≡ true → (c : Config) (st : State) (reading : ℕ) → Holds c st b (now (list .entry)) → policyOf c ≡ Ratio window (ofBits binary64 (c .«ratio_bits»)) (c .«min_calls») → Decides (settings c) reading success st r) ⌝ }
+    ensures { λ r. ⌜
+        (sound b (now (list .entry)) ≡ true → (c : Config) (st : State) (reading : ℕ) → Holds c st b (now (list .entry))
+        → policyOf c ≡ Ratio window (ofBits binary64 (c .«ratio_bits»)) (c .«min_calls») → Decides (settings c) reading success st r)
+        ⌝ }
 {
     let c = b.config;
     let h = b.shared;
@@ -122,7 +128,10 @@ fn over(len: u32, window: u32) -> u32
 
 // Windowed: the readings before the cutoff go, and a failure's own is appended.
 fn decide_time(b: Breaker, list: &[u64], now_ms: u64, success: bool) -> Recorded
-    ensures { λ r. ⌜ (sound b (now (list .entry)) ≡ true → (c : Config) (st : State) → Holds c st b (now (list .entry)) → policyOf c ≡ Windowed (c .limit) (c .«period_ms») → Decides (settings c) «now_ms» success st r) ⌝ }
+    ensures { λ r. ⌜
+        (sound b (now (list .entry)) ≡ true → (c : Config) (st : State) → Holds c st b (now (list .entry))
+        → policyOf c ≡ Windowed (c .limit) (c .«period_ms») → Decides (settings c) «now_ms» success st r)
+        ⌝ }
 {
     let c = b.config;
     let h = b.shared;
@@ -136,7 +145,7 @@ fn decide_time(b: Breaker, list: &[u64], now_ms: u64, success: bool) -> Recorded
             len: stay,
         });
     }
-    if 4096 <= stay {
+    if MOST_ITEMS <= stay {
         return Recorded::Refused(Refusal::Full);
     }
     let recent = history::count_recent(list, gone, h.len, cutoff);
@@ -153,7 +162,10 @@ fn decide_time(b: Breaker, list: &[u64], now_ms: u64, success: bool) -> Recorded
 // An outcome in Closed, with a ticket that is not stale: a refusal, or what becomes of run and list, and whether it opens.
 // Ruled out: a success that trips; a failure that leaves the run.
 pub fn decide_closed(b: Breaker, list: &[u64], now_ms: u64, success: bool) -> Recorded
-    ensures { λ r. ⌜ (sound b (now (list .entry)) ≡ true → (c : Config) (st : State) → Holds c st b (now (list .entry)) → Decides (settings c) «now_ms» success st r) ⌝ }
+    ensures { λ r. ⌜
+        (sound b (now (list .entry)) ≡ true → (c : Config) (st : State) → Holds c st b (now (list .entry))
+        → Decides (settings c) «now_ms» success st r)
+        ⌝ }
 {
     let items = items_of(b.config);
     match items {

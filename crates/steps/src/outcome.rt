@@ -52,7 +52,11 @@ fn bit_of(failed: bool) -> u64
 
 // Stores the list after an outcome in Closed.
 fn store(b: Breaker, list: &mut [u64], now_ms: u64, failed: bool, gone: u32) -> Changed
-    ensures { λ r. ⌜ (sound b (now (list .entry)) ≡ true → (c : Config) (st : State) → Holds c st b (now (list .entry)) → length (changed (policyOf c) failed «now_ms» gone (st .list)) ≤ 4096 → left (told r) (now (list .exit)) ≡ held (changed (policyOf c) failed «now_ms» gone (st .list))) ⌝ }
+    ensures { λ r. ⌜
+        (sound b (now (list .entry)) ≡ true → (c : Config) (st : State) → Holds c st b (now (list .entry))
+        → length (changed (policyOf c) failed «now_ms» gone (st .list)) ≤ 4096
+        → left (told r) (now (list .exit)) ≡ held (changed (policyOf c) failed «now_ms» gone (st .list)))
+        ⌝ }
 {
     let len = b.shared.len;
     let items = items_of(b.config);
@@ -71,7 +75,10 @@ fn store(b: Breaker, list: &mut [u64], now_ms: u64, failed: bool, gone: u32) -> 
 // An outcome in Closed, with a ticket that is not stale: decided, and its list stored. The caller makes the record.
 // Ruled out: a list stored where there is no room; a list left as it was where the run is counted.
 pub fn settle_closed(b: Breaker, list: &mut [u64], now_ms: u64, success: bool) -> Recorded
-    ensures { λ r. ⌜ (sound b (now (list .entry)) ≡ true → (c : Config) (st : State) → Holds c st b (now (list .entry)) → Decides (settings c) «now_ms» success st r × (now (list .exit) ≡ placesAfter (settings c) «now_ms» success st r)) ⌝ }
+    ensures { λ r. ⌜
+        (sound b (now (list .entry)) ≡ true → (c : Config) (st : State) → Holds c st b (now (list .entry))
+        → Decides (settings c) «now_ms» success st r × (now (list .exit) ≡ placesAfter (settings c) «now_ms» success st r))
+        ⌝ }
 {
     let decided = decide_closed(b, list, now_ms, success);
     match decided {
@@ -96,7 +103,10 @@ pub fn settle_unclosed(
     t: Ticket,
     success: bool,
 ) -> Breaker
-    ensures { λ r. ⌜ (sound b (now (list .entry)) ≡ true → (b .shared .state ≡ 0 → ⊥) → (c : Config) (st : State) → Holds c st b (now (list .entry)) → after nothing r (now (list .exit)) ≡ kept c (settled (settings c) «now_ms» t success st)) ⌝ }
+    ensures { λ r. ⌜
+        (sound b (now (list .entry)) ≡ true → (b .shared .state ≡ 0 → ⊥) → (c : Config) (st : State) → Holds c st b (now (list .entry))
+        → after nothing r (now (list .exit)) ≡ kept c (settled (settings c) «now_ms» t success st))
+        ⌝ }
 {
     if t.generation != b.shared.generation {
         return b;
@@ -115,7 +125,10 @@ pub fn settle_unclosed(
 // A settle in any state.
 // Ruled out: a stale ticket that counts; a failure with no room that is told as done.
 pub fn settle_locked(b: Breaker, list: &mut [u64], now_ms: u64, t: Ticket, success: bool) -> Settled
-    ensures { λ r. ⌜ (sound b (now (list .entry)) ≡ true → (c : Config) (st : State) → Holds c st b (now (list .entry)) → after (finishedTold (r .answer)) (r .breaker) (now (list .exit)) ≡ kept c (settled (settings c) «now_ms» t success st)) ⌝ }
+    ensures { λ r. ⌜
+        (sound b (now (list .entry)) ≡ true → (c : Config) (st : State) → Holds c st b (now (list .entry))
+        → after (finishedTold (r .answer)) (r .breaker) (now (list .exit)) ≡ kept c (settled (settings c) «now_ms» t success st))
+        ⌝ }
 {
     if b.shared.state != CLOSED {
         return Settled {
@@ -148,7 +161,10 @@ pub fn settle_locked(b: Breaker, list: &mut [u64], now_ms: u64, t: Ticket, succe
 // A manual outcome.
 // Ruled out: one that frees a probe it did not use up; one that uses up two.
 pub fn manual_locked(b: Breaker, list: &mut [u64], now_ms: u64, success: bool) -> Settled
-    ensures { λ r. ⌜ (sound b (now (list .entry)) ≡ true → (c : Config) (st : State) → Holds c st b (now (list .entry)) → after (finishedTold (r .answer)) (r .breaker) (now (list .exit)) ≡ kept c (manual (settings c) «now_ms» success st)) ⌝ }
+    ensures { λ r. ⌜
+        (sound b (now (list .entry)) ≡ true → (c : Config) (st : State) → Holds c st b (now (list .entry))
+        → after (finishedTold (r .answer)) (r .breaker) (now (list .exit)) ≡ kept c (manual (settings c) «now_ms» success st))
+        ⌝ }
 {
     let generation = b.shared.generation;
     let held = Ticket {

@@ -5,6 +5,7 @@ ghost use lib.Ieee.{binary64, ofBits};
 ghost use Rattle.trip.specs.Settings.{millisTold, millisOf, ofMillis, clampedRatio, normalisedRatio, normalisedTrip, builtTold, settingsOf, builtOf, defaultBuilder, withTrip, withCooldown, withHalfOpen};
 ghost use Rattle.trip.specs.Policy.{runReached, ratioReached, timesReached, boardFigure};
 use error::Refusal;
+use history::MOST_ITEMS;
 
 // The sign among the bits of an f64. Alone it is -0.0.
 pub const SIGN_BIT: u64 = 0x8000_0000_0000_0000;
@@ -166,6 +167,13 @@ impl Trip {
     }
 }
 
+// The kinds of a policy in a record.
+pub const POLICY_CONSECUTIVE: u8 = 1;
+
+pub const POLICY_RATIO: u8 = 2;
+
+pub const POLICY_WINDOWED: u8 = 3;
+
 // The settings of a breaker record, in document 01's order. Fields of another policy are 0.
 #[repr(C)]
 pub struct Config {
@@ -200,7 +208,7 @@ fn config_of(trip: Trip, cooldown_ms: u64, trials: u32, required: u32) -> Built
 {
     match trip.normalised() {
         Trip::Consecutive(n) => Built::Made(Config {
-            kind: 1,
+            kind: POLICY_CONSECUTIVE,
             limit: n,
             ratio_bits: 0,
             min_calls: 0,
@@ -214,11 +222,11 @@ fn config_of(trip: Trip, cooldown_ms: u64, trials: u32, required: u32) -> Built
             ratio,
             min_calls,
         } => {
-            if 4096 < window {
+            if MOST_ITEMS < window {
                 return Built::Refused(Refusal::Limit);
             }
             Built::Made(Config {
-                kind: 2,
+                kind: POLICY_RATIO,
                 limit: window,
                 ratio_bits: f64::to_bits(ratio),
                 min_calls,
@@ -231,11 +239,11 @@ fn config_of(trip: Trip, cooldown_ms: u64, trials: u32, required: u32) -> Built
         Trip::Windowed { failures, period } => match period.as_millis() {
             Millis::Refused(r) => Built::Refused(r),
             Millis::Whole(period_ms) => {
-                if 4096 < failures {
+                if MOST_ITEMS < failures {
                     return Built::Refused(Refusal::Limit);
                 }
                 Built::Made(Config {
-                    kind: 3,
+                    kind: POLICY_WINDOWED,
                     limit: failures,
                     ratio_bits: 0,
                     min_calls: 0,

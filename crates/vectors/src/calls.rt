@@ -129,7 +129,7 @@ fn record_manual(b: Breaker, list: &mut [u64], n: &Line) -> Called {
 
 fn still_admits(b: Breaker, list: &[u64], n: &Line) -> Called {
     Called {
-        told: told::standing(breaker::still_admits(b, list, n[2], ticket(n))),
+        told: told::standing(admission::still_admits(b, list, n[2], ticket(n))),
         breaker: b,
     }
 }

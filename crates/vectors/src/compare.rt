@@ -89,9 +89,9 @@ pub(crate) fn shared_numbers(h: Shared) -> [u64; 8] {
         h.state as u64,
         h.generation,
         h.run as u64,
-        h.inflight as u64,
-        h.trait_probes as u64,
-        h.successes as u64,
+        h.counts.inflight as u64,
+        h.counts.trait_probes as u64,
+        h.counts.successes as u64,
         h.open_until,
         h.len as u64,
     ]

@@ -18,7 +18,9 @@ use crate::wait_lines;
 use crate::wait_lines::is_wait;
 use crate::waits::no_pending;
 use breaker::Breaker;
+use breaker::Counts;
 use breaker::Shared;
+use breaker::no_counts;
 use trip::Config;
 use waiting::Pending;
 
@@ -53,9 +55,7 @@ pub(crate) fn start() -> Run {
                 state: 0,
                 generation: 0,
                 run: 0,
-                inflight: 0,
-                trait_probes: 0,
-                successes: 0,
+                counts: no_counts(),
                 open_until: 0,
                 len: 0,
             },
@@ -105,22 +105,9 @@ fn refused(b: Breaker, r: Called, number: u64, list: &Places, want: &Places) -> 
     )
 }
 
-fn with_state(b: Breaker, state: u8) -> Breaker {
-    let config = b.config;
-    let h = b.shared;
-    Breaker {
-        config,
-        shared: Shared {
-            state,
-            generation: h.generation,
-            run: h.run,
-            inflight: h.inflight,
-            trait_probes: h.trait_probes,
-            successes: h.successes,
-            open_until: h.open_until,
-            len: h.len,
-        },
-    }
+fn with_state(mut b: Breaker, state: u8) -> Breaker {
+    b.shared.state = state;
+    b
 }
 
 // Makes a call in the first 4,095 places.
@@ -235,9 +222,11 @@ fn shared_of(n: &Line) -> Shared {
         state: (n[1] % 256) as u8,
         generation: n[2],
         run: narrow(n[3]),
-        inflight: narrow(n[4]),
-        trait_probes: narrow(n[5]),
-        successes: narrow(n[6]),
+        counts: Counts {
+            inflight: narrow(n[4]),
+            trait_probes: narrow(n[5]),
+            successes: narrow(n[6]),
+        },
         open_until: n[7],
         len: narrow(n[8]),
     }

@@ -8,6 +8,7 @@ use crate::lines::Line;
 use crate::told;
 use crate::told::Told;
 use breaker::Breaker;
+use breaker::Counts;
 use breaker::Shared;
 use breaker::Ticket;
 use trip::Config;
@@ -107,9 +108,11 @@ fn shared(a: &Numbers) -> Shared {
         state: (a[8] % 256) as u8,
         generation: a[9],
         run: narrow(a[10]),
-        inflight: narrow(a[11]),
-        trait_probes: narrow(a[12]),
-        successes: narrow(a[13]),
+        counts: Counts {
+            inflight: narrow(a[11]),
+            trait_probes: narrow(a[12]),
+            successes: narrow(a[13]),
+        },
         open_until: a[14],
         len: narrow(a[15]),
     }

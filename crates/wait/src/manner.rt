@@ -86,7 +86,10 @@ pub(crate) fn stop(ended: bool, wait: Wait) -> Ran
 
 // Ends a wait: one that holds a unit is to give it back.
 pub(crate) fn drop_as(ended: bool, holds: bool, wait: Wait) -> Dropping
-    ensures { λ r. ⌜ r ≡ inOrder ended (not (waitInBounds wait)) (λ x. droppedAs (Dropped·is.Refused x) wait) (droppedAs (Dropped·is.GiveBack (bit holds)) endedWait) ⌝ }
+    ensures { λ r. ⌜
+        r
+        ≡ inOrder ended (not (waitInBounds wait)) (λ x. droppedAs (Dropped·is.Refused x) wait) (droppedAs (Dropped·is.GiveBack (bit holds)) endedWait)
+        ⌝ }
 {
     if ended {
         return Dropping {

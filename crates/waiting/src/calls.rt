@@ -50,7 +50,10 @@ pub fn start(
     limited: bool,
     timeout: u64,
 ) -> Beginning
-    ensures { λ r. ⌜ pendingAfter (begunTold (r .answer)) (r .breaker) (now (list .exit)) (r .pending) ≡ starting «now_ms» clock limited timeout breaker (now (list .entry)) pending ⌝ }
+    ensures { λ r. ⌜
+        pendingAfter (begunTold (r .answer)) (r .breaker) (now (list .exit)) (r .pending)
+        ≡ starting «now_ms» clock limited timeout breaker (now (list .entry)) pending
+        ⌝ }
 {
     match test(breaker, list) {
         Tested::Refused(r) => Beginning {
@@ -80,6 +83,19 @@ pub fn start(
     }
 }
 
+fn awaiting(answer: Awaited, breaker: Breaker, pending: Pending) -> Awaiting
+    ensures { λ r. ⌜
+        ((places : List ℕ)
+        → pendingAfter (awaitedTold (r .answer)) (r .breaker) places (r .pending) ≡ pendingAfter (awaitedTold answer) breaker places pending)
+        ⌝ }
+{
+    Awaiting {
+        answer,
+        breaker,
+        pending,
+    }
+}
+
 // One turn. One that ends the wait completes it: admitted, if the breaker still admits the ticket at this reading; else the ticket is aborted.
 // Ruled out: a completion that skips the abort; one that admits whatever the breaker has become.
 pub fn turn(
@@ -90,38 +106,25 @@ pub fn turn(
     now_ms: u64,
     capacity: u32,
 ) -> Awaiting
-    ensures { λ r. ⌜ pendingAfter (awaitedTold (r .answer)) (r .breaker) (now (list .exit)) (r .pending) ≡ turning turn «now_ms» capacity breaker (now (list .entry)) pending ⌝ }
+    ensures { λ r. ⌜
+        pendingAfter (awaitedTold (r .answer)) (r .breaker) (now (list .exit)) (r .pending)
+        ≡ turning turn «now_ms» capacity breaker (now (list .entry)) pending
+        ⌝ }
 {
     match test(breaker, list) {
-        Tested::Refused(r) => Awaiting {
-            answer: Awaited::Refused(r),
-            breaker,
-            pending,
-        },
+        Tested::Refused(r) => awaiting(Awaited::Refused(r), breaker, pending),
         Tested::Sound => {
             let turned = wait::turn(pending.wait, turn);
             let answer = turned.answer;
             let next = with_wait(turned.wait, pending);
             match answer {
-                Turned::Next(act) => Awaiting {
-                    answer: Awaited::Next(act),
-                    breaker,
-                    pending: next,
-                },
-                Turned::Refused(r) => Awaiting {
-                    answer: Awaited::Refused(r),
-                    breaker,
-                    pending: next,
-                },
+                Turned::Next(act) => awaiting(Awaited::Next(act), breaker, next),
+                Turned::Refused(r) => awaiting(Awaited::Refused(r), breaker, next),
                 Turned::Ends(ending) => {
                     let done = complete(breaker, pending.ticket, ending, now_ms, capacity);
                     let told = done.answer;
                     let left = done.breaker;
-                    Awaiting {
-                        answer: Awaited::Ends(told),
-                        breaker: left,
-                        pending: next,
-                    }
+                    awaiting(Awaited::Ends(told), left, next)
                 }
             }
         }
@@ -129,7 +132,11 @@ pub fn turn(
 }
 
 fn proceeding(course: Course, taken: u64, breaker: Breaker, pending: Pending) -> Proceeding
-    ensures { λ r. ⌜ ((places : List ℕ) → pendingRun (pendingAfter (courseTold (r .answer .course)) (r .breaker) places (r .pending)) (r .answer .taken) ≡ pendingRun (pendingAfter (courseTold course) breaker places pending) taken) ⌝ }
+    ensures { λ r. ⌜
+        ((places : List ℕ)
+        → pendingRun (pendingAfter (courseTold (r .answer .course)) (r .breaker) places (r .pending)) (r .answer .taken)
+        ≡ pendingRun (pendingAfter (courseTold course) breaker places pending) taken)
+        ⌝ }
 {
     Proceeding {
         answer: Progress { course, taken },
@@ -149,7 +156,10 @@ pub fn run(
     now_ms: u64,
     capacity: u32,
 ) -> Proceeding
-    ensures { λ r. ⌜ pendingRun (pendingAfter (courseTold (r .answer .course)) (r .breaker) (now (list .exit)) (r .pending)) (r .answer .taken) ≡ running (now (turns .entry)) limit «now_ms» capacity breaker (now (list .entry)) pending ⌝ }
+    ensures { λ r. ⌜
+        pendingRun (pendingAfter (courseTold (r .answer .course)) (r .breaker) (now (list .exit)) (r .pending)) (r .answer .taken)
+        ≡ running (now (turns .entry)) limit «now_ms» capacity breaker (now (list .entry)) pending
+        ⌝ }
 {
     if turns.len() % TURN_WIDTH != 0 {
         return proceeding(Course::Refused(Refusal::Storage), 0, breaker, pending);

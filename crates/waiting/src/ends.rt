@@ -17,7 +17,10 @@ use wait::Ending;
 
 // The ticket is aborted.
 fn given_up(answer: Completed, breaker: Breaker, ticket: Ticket) -> Completion
-    ensures { λ r. ⌜ ((c : Config) (st : State) → breaker ≡ stored c st → after (completedTold (r .answer)) (r .breaker) (padded (st .list)) ≡ kept c (afterAbort (completedTold answer) ticket st)) ⌝ }
+    ensures { λ r. ⌜
+        ((c : Config) (st : State) → breaker ≡ stored c st
+        → after (completedTold (r .answer)) (r .breaker) (padded (st .list)) ≡ kept c (afterAbort (completedTold answer) ticket st))
+        ⌝ }
 {
     Completion {
         answer,
@@ -33,7 +36,10 @@ pub(crate) fn complete(
     now_ms: u64,
     capacity: u32,
 ) -> Completion
-    ensures { λ r. ⌜ ((c : Config) (st : State) → breaker ≡ stored c st → after (completedTold (r .answer)) (r .breaker) (padded (st .list)) ≡ kept c (completes ending «now_ms» capacity ticket st)) ⌝ }
+    ensures { λ r. ⌜
+        ((c : Config) (st : State) → breaker ≡ stored c st
+        → after (completedTold (r .answer)) (r .breaker) (padded (st .list)) ≡ kept c (completes ending «now_ms» capacity ticket st))
+        ⌝ }
 {
     match ending {
         Ending::Deadline(back) => given_up(Completed::Deadline(back), breaker, ticket),

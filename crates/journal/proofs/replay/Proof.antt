@@ -23,13 +23,17 @@ returns-2 c = search needs
 
 slice-aggregate-replay-all : tie.Need-slice-aggregate-replay-all
 slice-aggregate-replay-all c =
-    let start = c .before .before .before .before .before .before .before in
+    let place = c .before .before .before .before .before .before .before in
+    let start = place in
     sym (take-limit (start .args .input .now) (c .before .before .before .least .result) (c .before .before .before .least .ensures) .0)
 
 replay-all-requires : tie.Need-replay-all-requires
 replay-all-requires c κs =
-    let start = c .before .before .before .before .before .before .before .before .before in
-    (omega (arith, take-limit (start .args .input .now) (c .before .before .before .before .before .least .result) (c .before .before .before .before .before .least .ensures) .0, c .before .before .before .before .if1 .left), c .before .before .before .if2 .left)
+    let at-if1 = c .before .before .before .before in
+    let at-least = at-if1 .before in
+    let place = at-least .before .before .before .before in
+    let start = place in
+    (omega (arith, take-limit (start .args .input .now) (at-least .least .result) (at-least .least .ensures) .0, at-if1 .if1 .left), c .before .before .before .if2 .left)
 
 same-length : tie.Need-same-length
 same-length c = search needs
@@ -39,9 +43,11 @@ same-length-2 c = search needs
 
 returns-3 : tie.Need-returns-3
 returns-3 c =
-    let p = c .before .before .before .before .before .before .before .before in
+    let at-replay-all = c .before .before .before .before in
+    let place = at-replay-all .before .before .before .before in
+    let p = place in
     let start = p .before .before .before .before .before .before in
-    let k = c .before .before .before .before .replay-all in
+    let k = at-replay-all .replay-all in
     let l = take-limit (start .args .input .now) (p .before .before .least .result) (p .before .before .least .ensures) in
     (omega (arith, p .before .before .least .ensures, p .before .if1 .left), p .if2 .left, rw (l .1, l .2) at (k .ensures .0), k .ensures .1)
 

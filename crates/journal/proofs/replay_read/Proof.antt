@@ -35,13 +35,15 @@ returns c =
 
 returns-2 : tie.Need-returns-2
 returns-2 c =
-    let start = c .before .before .before .before .before .before .before .before in
+    let place = c .before .before .before .before .before .before .before .before in
+    let start = place in
     let said = rw (c .enum-told .given .1) at (c .before .before .replay .ensures) in
     absurd (omega (arith, said .0, start .good))
 
 returns-3 : tie.Need-returns-3
 returns-3 c =
-    let start = c .before .before .before .before .before .before .before .before in
+    let place = c .before .before .before .before .before .before .before .before in
+    let start = place in
     let said = rw (c .enum-told2 .given .1) at (c .before .before .replay .ensures) in
     absurd (said .1 (omega (arith, start .good)))
 

@@ -14,13 +14,17 @@ enum-known-n : tie.Need-enum-known-n
 enum-known-n c = search needs
 
 within : (c : tie.After-known-told) → c .before .n .given .0 .0 ≤ length (c .before .before .before .before .before .before .before .replay .last .1 .1 .0)
-within c = (rw (c .before .n .given .1) at (c .before .before .before .before .before .before .before .replay .ensures)) .3 .0
+within c =
+    let at-replay = c .before .before .before .before .before .before .before in
+    (rw (c .before .n .given .1) at (at-replay .replay .ensures)) .3 .0
 
 slice-reshare-prefix-same : tie.Need-slice-reshare-prefix-same
 slice-reshare-prefix-same c = within (c)
 
 slice-aggregate-same : tie.Need-slice-aggregate-same
-slice-aggregate-same c = sym (length-take-le (c .before .before .n .given .0 .0) (c .before .before .before .before .before .before .before .before .replay .last .1 .1 .0) (within (c .before)))
+slice-aggregate-same c =
+    let at-replay = c .before .before .before .before .before .before .before .before in
+    sym (length-take-le (c .before .before .n .given .0 .0) (at-replay .replay .last .1 .1 .0) (within (c .before)))
 
 same-requires : tie.Need-same-requires
 same-requires c κs = search needs

@@ -36,7 +36,8 @@ at-most-requires-2 c κs = search needs
 
 returns : tie.Need-returns
 returns c =
-    let p = c .before .before .before .before .before .before .before in
+    let place = c .before .before .before .before .before .before .before in
+    let p = place in
     let first = p .after .ensures in
     let a = first .2 (p .before .before .pre) in
     (omega arith, omega arith, omega arith, omega arith)

@@ -24,10 +24,17 @@ tell-refusal-requires-2 : tie.Need-tell-refusal-requires-2
 tell-refusal-requires-2 c κs = search needs
 
 returns : tie.Need-returns
-returns c = c .tell-refusal .ensures ∙ ap packed (guarded-refused refused (refused Turn) (c .before .before .before .before .before .before .args .breaker) (c .before .before .before .before .before .before .args .list .now) (c .before .before .r .given .0 .0) (sym (c .before .before .r .given .1) ∙ c .before .before .before .before .test .ensures))
+returns c =
+    let at-test = c .before .before .before .before in
+    let start = at-test .before .before in
+    let a = start .args in
+    c .tell-refusal .ensures ∙ ap packed (guarded-refused refused (refused Turn) (a .breaker) (a .list .now) (c .before .before .r .given .0 .0) (sym (c .before .before .r .given .1) ∙ at-test .test .ensures))
 
 returns-2 : tie.Need-returns-2
-returns-2 c = c .tell-refusal2 .ensures ∙ ap packed (guarded-done refused (refused Turn) (c .before .before .before .before .before .args .breaker) (c .before .before .before .before .before .args .list .now) (tested-sound (c .before .before .before .before .before .args .breaker) (c .before .before .before .before .before .args .list .now) (sym (c .before .enum-told .given .1) ∙ c .before .before .before .test .ensures)))
+returns-2 c =
+    let start = c .before .before .before .before .before in
+    let a = start .args in
+    c .tell-refusal2 .ensures ∙ ap packed (guarded-done refused (refused Turn) (a .breaker) (a .list .now) (tested-sound (a .breaker) (a .list .now) (sym (c .before .enum-told .given .1) ∙ c .before .before .before .test .ensures)))
 
 pub tell-unknown-spec : {M : Type 1} → statement M
 tell-unknown-spec =

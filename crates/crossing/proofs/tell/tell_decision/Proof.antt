@@ -6,11 +6,20 @@ use Rattle.crossing.proofs.tell.tell_decision.Tie as tie
 enum-told : tie.Need-enum-told
 enum-told c = search needs
 
+cast-t4 : tie.Need-cast-t4
+cast-t4 c = search needs
+
 enum-known-d : tie.Need-enum-known-d
 enum-known-d c = search needs
 
+cast-t5 : tie.Need-cast-t5
+cast-t5 c = search needs
+
 enum-told-2 : tie.Need-enum-told-2
 enum-told-2 c = search needs
+
+cast-t6 : tie.Need-cast-t6
+cast-t6 c = search needs
 
 returns : tie.Need-returns
 returns c = rw (c .enum-told .given .1)
@@ -23,4 +32,14 @@ returns-3 c = rw (c .enum-told2 .given .1)
 
 pub tell-decision-spec : {M : Type 1} → statement M
 tell-decision-spec =
-    tie.close (tie.spec enum-told enum-known-d enum-told-2 returns returns-2 returns-3)
+    tie.close
+    (tie.spec
+    enum-told
+    cast-t4
+    enum-known-d
+    cast-t5
+    enum-told-2
+    cast-t6
+    returns
+    returns-2
+    returns-3)

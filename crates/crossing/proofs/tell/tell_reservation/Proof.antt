@@ -6,8 +6,14 @@ use Rattle.crossing.proofs.tell.tell_reservation.Tie as tie
 enum-known-w : tie.Need-enum-known-w
 enum-known-w c = search needs
 
+cast-t4 : tie.Need-cast-t4
+cast-t4 c = search needs
+
 enum-told : tie.Need-enum-told
 enum-told c = search needs
+
+cast-t5 : tie.Need-cast-t5
+cast-t5 c = search needs
 
 returns : tie.Need-returns
 returns c = rw (c .before .w .given .1)
@@ -16,4 +22,5 @@ returns-2 : tie.Need-returns-2
 returns-2 c = rw (c .enum-told .given .1)
 
 pub tell-reservation-spec : {M : Type 1} → statement M
-tell-reservation-spec = tie.close (tie.spec enum-known-w enum-told returns returns-2)
+tell-reservation-spec =
+    tie.close (tie.spec enum-known-w cast-t4 enum-told cast-t5 returns returns-2)

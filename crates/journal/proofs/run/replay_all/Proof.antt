@@ -22,18 +22,21 @@ enum-told c = search needs
 
 write-malformed-requires : tie.Need-write-malformed-requires
 write-malformed-requires c κs =
-    omega (arith, c .before .before .before .before .before .before .before .pre .0)
+    let start = c .before .before .before .before .before .before .before in
+    omega (arith, start .pre .0)
 
 same-length : tie.Need-same-length
 same-length c = search needs
 
 returns : tie.Need-returns
 returns c =
-    let p = c .before .before .before .before .before .before in
+    let at-enum-told = c .before .before .before .before in
+    let place = at-enum-told .before .before in
+    let p = place in
     let start = p .before .before .before .before in
     let a = start .args in
     let w = c .before .before .write-malformed in
-    let no = rw (c .before .before .before .before .enum-told .given .1) at (p .read-header .ensures) in
+    let no = rw (at-enum-told .enum-told .given .1) at (p .read-header .ensures) in
     answers-headless (a .more) (a .s .now) (a .list .now) (a .out .now) (w .last .0) (w .result) (omega (arith, w .ensures .1 .1, start .pre .0)) (w .kept .0) no (w .ensures .0) (w .ensures .1 .0)
 
 blank-requires : tie.Need-blank-requires
@@ -59,7 +62,8 @@ slice-aggregate-write-line c = search needs
 
 write-line-requires : tie.Need-write-line-requires
 write-line-requires c κs =
-    omega (arith, c .before .before .before .before .before .before .before .before .before .before .before .before .before .before .before .before .before .before .before .before .pre .0)
+    let start = c .before .before .before .before .before .before .before .before .before .before .before .before .before .before .before .before .before .before .before .before in
+    omega (arith, start .pre .0)
 
 enum-told-2 : tie.Need-enum-told-2
 enum-told-2 c = search needs
@@ -73,15 +77,18 @@ is c = let f = rw (c .before .read .given .1) at (c .before .before .before .rea
 made : (c : tie.After-enum-told2) →
     IsMade (c .before .before .before .before .before .before .before .before .before .before .read .given .0 .0) (c .before .before .before .before .before .build .result .breaker) (c .before .before .before .before .before .build .last .1 .0)
 made c =
-    let p = c .before .before .before .before .before .before in
+    let at-build = c .before .before .before .before .before in
+    let place = at-build .before in
+    let p = place in
     let start = p .before .before .before .before .before .before .before .before .before .before in
-    let b = c .before .before .before .before .before .build in
+    let b = at-build .build in
     let o = p .builder-of in
     build-made (p .before .before .before .before .read .given .0 .0) (o .result) (p .before .before .blank .result) (b .result .breaker) (start .args .list .now) (b .last .1 .0) (o .ensures) (start .pre .1) (rw (c .enum-told2 .given .1) at (b .ensures))
 
 replay-calls-requires : tie.Need-replay-calls-requires
 replay-calls-requires c κs =
-    (c .before .before .before .before .before .before .before .before .before .before .before .before .before .before .before .before .before .before .pre .0, made (c .before .before) .4)
+    let start = c .before .before .before .before .before .before .before .before .before .before .before .before .before .before .before .before .before .before in
+    (start .pre .0, made (c .before .before) .4)
 
 same-length-2 : tie.Need-same-length-2
 same-length-2 c = search needs
@@ -91,7 +98,9 @@ same-length-3 c = search needs
 
 returns-2 : tie.Need-returns-2
 returns-2 c =
-    let p = c .before .before .before .before .before .before .before in
+    let at-number = c .before .before .before .before .before in
+    let place = at-number .before .before in
+    let p = place in
     let q = p .before .before .before .before .before .before in
     let start = q .before .before .before .before .before .before .before .before .before .before in
     let a = start .args in
@@ -99,7 +108,7 @@ returns-2 c =
     let f = is (q .before .before .before) in
     let r = p .answer .given .0 .0 in
     let no = build-refused (q .before .before .before .before .read .given .0 .0) (q .builder-of .result) (q .before .before .blank .result) (p .before .before .before .before .before .build .result .breaker) (a .list .now) (p .before .before .before .before .before .build .last .1 .0) (q .builder-of .ensures) (start .pre .1) r (rw (p .answer .given .1) at (p .before .before .before .before .before .build .ensures)) in
-    let v = rw (c .before .before .before .before .before .number .ensures) at (w .ensures) in
+    let v = rw (at-number .number .ensures) at (w .ensures) in
     answers-refused (a .more) (a .s .now) (a .list .now) (a .out .now) (w .last .0) (w .result) (omega (arith, w .ensures .1 .1, start .pre .0)) (w .kept .0) (p .before .before .before .before .before .build .last .1 .0) (q .before .before .before .before .read .given .0 .0) _ r (f .0) (f .1) no (v .0) (v .1 .0)
 
 same-length-4 : tie.Need-same-length-4
@@ -110,10 +119,12 @@ same-length-5 c = search needs
 
 returns-3 : tie.Need-returns-3
 returns-3 c =
-    let p = c .before .before .before .before .before .before .before in
+    let at-replay-calls = c .before .before .before .before in
+    let place = at-replay-calls .before .before .before in
+    let p = place in
     let q = p .before .before .before .before .before .before .before .before .before in
     let a = q .before .before .before .before .before .before .before .args in
-    let k = c .before .before .before .before .replay-calls in
+    let k = at-replay-calls .replay-calls in
     let f = is q in
     (answers-headed (a .more) (a .s .now) (a .list .now) _ (k .last .1 .1 .1 .1 .0) (q .before .read .given .0 .0) _ (p .before .before .before .before .before .build .result .breaker) (p .before .before .before .before .before .build .last .1 .0) (f .0) (f .1) (made p) (k .ensures .0), k .ensures .1)
 

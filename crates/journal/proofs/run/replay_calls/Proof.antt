@@ -37,7 +37,9 @@ enum-told c = search needs
 
 write-malformed-requires : tie.Need-write-malformed-requires Inv-loop μ-loop
 write-malformed-requires c κs =
-    omega (arith, c .before .before .before .before .before .loop .inv .3, c .before .before .before .before .before .loop .inv .5, c .before .before .before .before .before .before .before .before .before .pre .0)
+    let at-loop = c .before .before .before .before .before in
+    let start = at-loop .before .before .before .before in
+    omega (arith, at-loop .loop .inv .3, at-loop .loop .inv .5, start .pre .0)
 
 same-length : tie.Need-same-length Inv-loop μ-loop
 same-length c = search needs
@@ -47,14 +49,16 @@ same-length-2 c = search needs
 
 returns : tie.Need-returns Inv-loop μ-loop
 returns c =
-    let p = c .before .before .before .before .before .before in
+    let at-enum-told = c .before .before .before .before in
+    let place = at-enum-told .before .before in
+    let p = place in
     let start = p .before .before .before .before .before .before in
     let l = p .before .before .loop in
     let a = start .args in
     let w = c .before .before .write-malformed in
     let st = state (l .breaker) (l .list) in
     let xs = malformedLine (l .line) in
-    let no = rw (c .before .before .before .before .enum-told .given .1) at (p .read-call .ensures) in
+    let no = rw (at-enum-told .enum-told .given .1) at (p .read-call .ensures) in
     let r : Replays (a .more) (settings (a .start .config)) (l .line) st (drop (l .next) (a .s .now)) xs st =
     malformed (λ (e : drop (l .next) (a .s .now) ≡ []). absurd (omega (arith, p .before .loop-test .taken, length-drop (l .next) (a .s .now), ap length e))) no in
     let h : w .result ≤ length (l .out) = omega (arith, w .ensures .1 .1, l .inv .3, l .inv .5, start .pre .0) in (
@@ -64,7 +68,8 @@ returns c =
 
 step-requires : tie.Need-step-requires Inv-loop μ-loop
 step-requires c κs =
-    c .before .before .before .before .before .before .loop .inv .0
+    let at-loop = c .before .before .before .before .before .before in
+    at-loop .loop .inv .0
 
 -- the call that was read, and what it left
 is : (c : tie.After-known-told Inv-loop μ-loop) →
@@ -84,7 +89,8 @@ left : (c : tie.After-step Inv-loop μ-loop)
     let o = called (c .before .before .before .read .given .0 .0) (settings (start .args .start .config)) (state (p .loop .breaker) (p .loop .list)) in
     (sound (c .step .result .breaker) (c .step .last .1 .0) ≡ true) × (state (c .step .result .breaker) (c .step .last .1 .0) ≡ o .after) × (c .step .result .breaker .config ≡ start .args .start .config) × Says (c .step .result .answer) (o .told)
 left c =
-    let p = c .before .before .before .before .before .before .before in
+    let place = c .before .before .before .before .before .before .before in
+    let p = place in
     let l = p .loop in
     stepped (c .before .before .before .read .given .0 .0) (l .breaker) (l .list) (c .step .last .1 .0) (c .step .result) (p .before .before .before .before .args .start .config) (l .inv .1) (l .inv .0) (c .step .ensures)
 
@@ -95,21 +101,26 @@ widths c =
 
 write-answer-requires : tie.Need-write-answer-requires Inv-loop μ-loop
 write-answer-requires c κs =
-    let p = c .before .before .before .before .before .before .before .before .before .before .before .before in
-    (omega (arith, p .loop .inv .3, p .loop .inv .5, p .before .before .before .before .pre .0), left (c .before .before .before .before .before) .3 .0)
+    let place = c .before .before .before .before .before in
+    let place-2 = place .before .before .before .before .before .before .before in
+    let p = place-2 in
+    (omega (arith, p .loop .inv .3, p .loop .inv .5, p .before .before .before .before .pre .0), left (place) .3 .0)
 
 add-line : tie.Need-add-line Inv-loop μ-loop
 add-line c =
-    let p = c .before .before .before .before .before .before .before .before .before .before in
+    let place = c .before .before .before .before .before .before .before .before .before .before in
+    let p = place in
     omega (arith, p .before .before .before .before .before .loop .inv .4, p .before .before .before .before .before .before .before .before .before .good, fewer p)
 
 loop-less : tie.Need-loop-less Inv-loop μ-loop
 loop-less c =
-    omega (arith, fewer (c .before .before .before .before .before .before .before .before .before .before))
+    let place = c .before .before .before .before .before .before .before .before .before .before in
+    omega (arith, fewer (place))
 
 loop-again : tie.Need-loop-again Inv-loop μ-loop
 loop-again c =
-    let p = c .before .before .before .before .before .before .before .before in
+    let place = c .before .before .before .before .before .before .before .before in
+    let p = place in
     let q = p .before .before .before .before .before .before .before in
     let start = q .before .before .before .before in
     let l = q .loop in
@@ -136,7 +147,8 @@ loop-again c =
 
 write-malformed-requires-2 : tie.Need-write-malformed-requires-2 Inv-loop μ-loop
 write-malformed-requires-2 c κs =
-    omega (arith, c .before .before .before .loop .inv .3, c .before .before .before .loop .inv .5, c .before .before .before .before .before .before .before .pre .0)
+    let start = c .before .before .before .before .before .before .before in
+    omega (arith, c .before .before .before .loop .inv .3, c .before .before .before .loop .inv .5, start .pre .0)
 
 same-length-3 : tie.Need-same-length-3 Inv-loop μ-loop
 same-length-3 c = search needs
@@ -146,7 +158,10 @@ same-length-4 c = search needs
 
 returns-2 : tie.Need-returns-2 Inv-loop μ-loop
 returns-2 c =
-    let p = c .before .before .before .before .before .before in
+    let at-if1 = c .before .before .before .before in
+    let at-loop-test = at-if1 .before in
+    let place = at-loop-test .before in
+    let p = place in
     let start = p .before .before .before .before in
     let l = p .loop in
     let a = start .args in
@@ -154,7 +169,7 @@ returns-2 c =
     let st = state (l .breaker) (l .list) in
     let xs = malformedLine (l .line) in
     let r : Replays (a .more) (settings (a .start .config)) (l .line) st (drop (l .next) (a .s .now)) xs st =
-    rw (drop-of-length-le (a .s .now) (c .before .before .before .before .before .loop-test .left)) (malformed (λ _. c .before .before .before .before .if1 .taken) not-call) in
+    rw (drop-of-length-le (a .s .now) (at-loop-test .loop-test .left)) (malformed (λ _. at-if1 .if1 .taken) not-call) in
     let h : w .result ≤ length (l .out) = omega (arith, w .ensures .1 .1, l .inv .3, l .inv .5, start .pre .0) in (
       (st, last (a .more) (settings (a .start .config)) (state (a .start) (a .list .now)) (drop (a .at) (a .s .now)) (a .s .now) (l .out) (w .last .0) (l .next) (l .end) (w .result) (l .line) st xs r (w .ensures .0) (w .ensures .1 .0) h (l .inv .7), padded-state (l .breaker) (l .list) (l .inv .0)),
       (omega (arith, h, w .kept .0), kept (l .out) (w .last .0) (a .out .now) (l .end) (w .result) xs (w .ensures .0) (w .ensures .1 .0) h (l .inv .6)),
@@ -168,7 +183,8 @@ same-length-6 c = search needs
 
 returns-3 : tie.Need-returns-3 Inv-loop μ-loop
 returns-3 c =
-    let start = c .before .before .before .before .before .before in
+    let place = c .before .before .before .before .before .before in
+    let start = place in
     let l = c .before .before .loop in
     let a = start .args in
     let st = state (l .breaker) (l .list) in

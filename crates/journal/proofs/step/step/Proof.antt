@@ -72,61 +72,75 @@ close-requires c κs = search needs
 
 returns : tie.Need-returns
 returns c =
-    let b = c .before .before .before .before .before .before .before .before .before .args .breaker in
-    let s = c .before .before .before .before .before .before .before .before .before .args .list .now in
-    let g = c .before .before .before .before .before .before .call .given in
+    let at-admit-as-locked = c .before .before .before .before in
+    let at-call = at-admit-as-locked .before .before in
+    let start = at-call .before .before .before in
+    let b = start .args .breaker in
+    let s = start .args .list .now in
+    let g = at-call .call .given in
     let d = c .before .before .d .given .0 .0 in
-    rw (g .1) (step-kept (Admit (g .0 .0)) b s s (c .before .before .before .before .before .before .before .before .before .pre) (admissionTold (Admission·is.Shed d)) b _ (admitted-shed (g .0 .0) b s (c .before .before .before .before .before .before .before .before .before .pre) false d (sym (c .before .before .d .given .1) ∙ c .before .before .before .before .admit-as-locked .ensures (b .config) (state b s) (holds b s (c .before .before .before .before .before .before .before .before .before .pre) .0))) refl (c .admission .ensures))
+    rw (g .1) (step-kept (Admit (g .0 .0)) b s s (start .pre) (admissionTold (Admission·is.Shed d)) b _ (admitted-shed (g .0 .0) b s (start .pre) false d (sym (c .before .before .d .given .1) ∙ at-admit-as-locked .admit-as-locked .ensures (b .config) (state b s) (holds b s (start .pre) .0))) refl (c .admission .ensures))
 
 returns-2 : tie.Need-returns-2
 returns-2 c =
-    let b = c .before .before .before .before .before .before .before .before .before .args .breaker in
-    let s = c .before .before .before .before .before .before .before .before .before .args .list .now in
-    let g = c .before .before .before .before .before .before .call .given in
+    let at-admit-as-locked = c .before .before .before .before in
+    let at-call = at-admit-as-locked .before .before in
+    let start = at-call .before .before .before in
+    let b = start .args .breaker in
+    let s = start .args .list .now in
+    let g = at-call .call .given in
     let t = c .before .before .t .given .0 .0 in
     let next = c .before .before .t .given .0 .1 .0 in
-    rw (g .1) (step-kept (Admit (g .0 .0)) b s s (c .before .before .before .before .before .before .before .before .before .pre) (admissionTold (Admission·is.Granted t)) next _ (admitted-granted (g .0 .0) b s (c .before .before .before .before .before .before .before .before .before .pre) false t next (sym (c .before .before .t .given .1) ∙ c .before .before .before .before .admit-as-locked .ensures (b .config) (state b s) (holds b s (c .before .before .before .before .before .before .before .before .before .pre) .0))) refl (c .admission2 .ensures))
+    rw (g .1) (step-kept (Admit (g .0 .0)) b s s (start .pre) (admissionTold (Admission·is.Granted t)) next _ (admitted-granted (g .0 .0) b s (start .pre) false t next (sym (c .before .before .t .given .1) ∙ at-admit-as-locked .admit-as-locked .ensures (b .config) (state b s) (holds b s (start .pre) .0))) refl (c .admission2 .ensures))
 
 same-length : tie.Need-same-length
 same-length c = search needs
 
 returns-3 : tie.Need-returns-3
 returns-3 c =
-    let b = c .before .before .before .before .before .before .before .before .before .args .breaker in
-    let s = c .before .before .before .before .before .before .before .before .before .args .list .now in
-    let g = c .before .before .before .before .before .before .call2 .given in
+    let at-call2 = c .before .before .before .before .before .before in
+    let start = at-call2 .before .before .before in
+    let b = start .args .breaker in
+    let s = start .args .list .now in
+    let g = at-call2 .call2 .given in
     let r = c .before .before .before .settle-locked in
-    rw (g .1) (step-kept (Success (g .0 .0) (g .0 .1 .0) (g .0 .1 .1 .0)) b s (r .last .1 .0) (c .before .before .before .before .before .before .before .before .before .pre) (finishedTold (r .result .answer)) (r .result .breaker) (c .finished .result) (r .ensures (c .before .before .before .before .before .before .before .before .before .pre) (b .config) (state b s) (holds b s (c .before .before .before .before .before .before .before .before .before .pre))) (c .finished .ensures .0) (c .finished .ensures .1))
+    rw (g .1) (step-kept (Success (g .0 .0) (g .0 .1 .0) (g .0 .1 .1 .0)) b s (r .last .1 .0) (start .pre) (finishedTold (r .result .answer)) (r .result .breaker) (c .finished .result) (r .ensures (start .pre) (b .config) (state b s) (holds b s (start .pre))) (c .finished .ensures .0) (c .finished .ensures .1))
 
 same-length-2 : tie.Need-same-length-2
 same-length-2 c = search needs
 
 returns-4 : tie.Need-returns-4
 returns-4 c =
-    let b = c .before .before .before .before .before .before .before .before .before .args .breaker in
-    let s = c .before .before .before .before .before .before .before .before .before .args .list .now in
-    let g = c .before .before .before .before .before .before .call3 .given in
+    let at-call3 = c .before .before .before .before .before .before in
+    let start = at-call3 .before .before .before in
+    let b = start .args .breaker in
+    let s = start .args .list .now in
+    let g = at-call3 .call3 .given in
     let r = c .before .before .before .settle-locked2 in
-    rw (g .1) (step-kept (Failure (g .0 .0) (g .0 .1 .0) (g .0 .1 .1 .0)) b s (r .last .1 .0) (c .before .before .before .before .before .before .before .before .before .pre) (finishedTold (r .result .answer)) (r .result .breaker) (c .finished2 .result) (r .ensures (c .before .before .before .before .before .before .before .before .before .pre) (b .config) (state b s) (holds b s (c .before .before .before .before .before .before .before .before .before .pre))) (c .finished2 .ensures .0) (c .finished2 .ensures .1))
+    rw (g .1) (step-kept (Failure (g .0 .0) (g .0 .1 .0) (g .0 .1 .1 .0)) b s (r .last .1 .0) (start .pre) (finishedTold (r .result .answer)) (r .result .breaker) (c .finished2 .result) (r .ensures (start .pre) (b .config) (state b s) (holds b s (start .pre))) (c .finished2 .ensures .0) (c .finished2 .ensures .1))
 
 returns-5 : tie.Need-returns-5
 returns-5 c =
-    let b = c .before .before .before .before .before .before .args .breaker in
-    let s = c .before .before .before .before .before .before .args .list .now in
+    let start = c .before .before .before .before .before .before in
+    let b = start .args .breaker in
+    let s = start .args .list .now in
     let g = c .before .before .before .call4 .given in
     let r = c .abort-locked in
-    rw (g .1) (step-kept (Abort (g .0 .0) (g .0 .1 .0) (g .0 .1 .1 .0)) b s s (c .before .before .before .before .before .before .pre) nothing (r .result) _ (given-back nothing (b .config) (record { generation = g .0 .1 .0; probe = g .0 .1 .1 .0 }) false (state b s) (r .result) s (r .ensures (b .config) (state b s) (holds b s (c .before .before .before .before .before .before .pre) .0)) (holds b s (c .before .before .before .before .before .before .pre) .1)) refl (c .before .finish .ensures))
+    rw (g .1) (step-kept (Abort (g .0 .0) (g .0 .1 .0) (g .0 .1 .1 .0)) b s s (start .pre) nothing (r .result) _ (given-back nothing (b .config) (record { generation = g .0 .1 .0; probe = g .0 .1 .1 .0 }) false (state b s) (r .result) s (r .ensures (b .config) (state b s) (holds b s (start .pre) .0)) (holds b s (start .pre) .1)) refl (c .before .finish .ensures))
 
 same-length-3 : tie.Need-same-length-3
 same-length-3 c = search needs
 
 returns-6 : tie.Need-returns-6
 returns-6 c =
-    let b = c .before .before .before .before .before .before .before .before .args .breaker in
-    let s = c .before .before .before .before .before .before .before .before .args .list .now in
-    let g = c .before .before .before .before .before .enum-told .given in
+    let at-finish2 = c .before .before .before .before in
+    let at-enum-told = at-finish2 .before in
+    let start = at-enum-told .before .before .before in
+    let b = start .args .breaker in
+    let s = start .args .list .now in
+    let g = at-enum-told .enum-told .given in
     let r = c .before .before .close in
-    rw (g .1) (step-kept (Reset (g .0 .0)) b s (r .last .1 .0) (c .before .before .before .before .before .before .before .before .pre) nothing (r .result) _ (kept-done (b .config) (closing (state b s)) (r .result) (r .last .1 .0) (r .ensures (c .before .before .before .before .before .before .before .before .pre) (b .config) (state b s) (holds b s (c .before .before .before .before .before .before .before .before .pre) .0))) refl (c .before .before .before .before .finish2 .ensures))
+    rw (g .1) (step-kept (Reset (g .0 .0)) b s (r .last .1 .0) (start .pre) nothing (r .result) _ (kept-done (b .config) (closing (state b s)) (r .result) (r .last .1 .0) (r .ensures (start .pre) (b .config) (state b s) (holds b s (start .pre) .0))) refl (at-finish2 .finish2 .ensures))
 
 pub step-spec : {M : Type 1} → statement M
 step-spec =

@@ -17,30 +17,38 @@ cast-t10 : tie.Need-cast-t10
 cast-t10 c = search needs
 
 mul-write-line : tie.Need-mul-write-line
-mul-write-line c = omega (arith, c .before .before .before .before .before .before .pre .1)
+mul-write-line c =
+    let start = c .before .before .before .before .before .before in
+    omega (arith, start .pre .1)
 
 sub-write-line : tie.Need-sub-write-line
-sub-write-line c = omega (arith, c .before .before .before .before .before .before .pre .1)
+sub-write-line c =
+    let start = c .before .before .before .before .before .before in
+    omega (arith, start .pre .1)
 
 part-write-line-start : tie.Need-part-write-line-start
-part-write-line-start c = omega (arith, c .before .before .before .before .before .before .before .pre .1)
+part-write-line-start c =
+    let start = c .before .before .before .before .before .before .before in
+    omega (arith, start .pre .1)
 
 part-write-line-end : tie.Need-part-write-line-end
 part-write-line-end c = search needs
 
 write-line-requires : tie.Need-write-line-requires
 write-line-requires c κs =
-    let a = c .before .before .before .before .before .before .before .before .args .answer in
-    let h = c .before .before .before .before .before .before .before .before .args .breaker .shared in
-    omega (arith, c .before .before .before .before .before .before .before .before .pre .0, part-short (a .skipped) 7 (a .first ∷ a .second ∷ h .state ∷ h .generation ∷ h .counts .inflight ∷ h .counts .successes ∷ h .«open_until» ∷ []) refl)
+    let start = c .before .before .before .before .before .before .before .before in
+    let a = start .args .answer in
+    let h = start .args .breaker .shared in
+    omega (arith, start .pre .0, part-short (a .skipped) 7 (a .first ∷ a .second ∷ h .state ∷ h .generation ∷ h .counts .inflight ∷ h .counts .successes ∷ h .«open_until» ∷ []) refl)
 
 same-length : tie.Need-same-length
 same-length c = search needs
 
 returns : tie.Need-returns
 returns c =
-    let a = c .before .before .before .before .before .before .before .before .before .before .before .args .answer in
-    let h = c .before .before .before .before .before .before .before .before .before .before .before .args .breaker .shared in
+    let start = c .before .before .before .before .before .before .before .before .before .before .before in
+    let a = start .args .answer in
+    let h = start .args .breaker .shared in
     let vs = a .first ∷ a .second ∷ h .state ∷ h .generation ∷ h .counts .inflight ∷ h .counts .successes ∷ h .«open_until» ∷ [] in
     let s = part-short (a .skipped) 7 vs refl in
     let l = c .before .before .write-line .ensures .1 .1 in

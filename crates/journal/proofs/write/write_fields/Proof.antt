@@ -24,13 +24,17 @@ loop-holds c = (search needs, refl, sym (add-zero _), laid-nil (c .before .befor
 
 -- there is room for the next field
 fit : (c : tie.In-loop Inv-loop μ-loop) → let l = c .before .loop in l .next + (1 + length (printDecimal (getD (c .before .before .before .before .args .values .now) (l .i) 0))) ≤ length (l .out)
-fit c = omega (arith, c .before .before .before .before .pre, fields-fit (c .before .before .before .before .args .values .now) (c .before .loop .i) (c .loop-test .taken))
+fit c =
+    let start = c .before .before .before .before in
+    omega (arith, start .pre, fields-fit (start .args .values .now) (c .before .loop .i) (c .loop-test .taken))
 
 slice-write-out : tie.Need-slice-write-out Inv-loop μ-loop
 slice-write-out c = omega (arith, fit c)
 
 add-write-decimal : tie.Need-add-write-decimal Inv-loop μ-loop
-add-write-decimal c = omega (arith, fit (c .before), c .before .before .before .before .before .good)
+add-write-decimal c =
+    let start = c .before .before .before .before .before in
+    omega (arith, fit (c .before), start .good)
 
 mul-write-decimal : tie.Need-mul-write-decimal Inv-loop μ-loop
 mul-write-decimal c = search needs
@@ -49,15 +53,18 @@ loop-less c = search needs
 
 loop-again : tie.Need-loop-again Inv-loop μ-loop
 loop-again c =
-    let a = c .before .before .before .before .before .before .before .before .before .args in
-    let l = c .before .before .before .before .before .before .loop in
+    let at-loop-test = c .before .before .before .before .before in
+    let at-loop = at-loop-test .before in
+    let start = at-loop .before .before .before in
+    let a = start .args in
+    let l = at-loop .loop in
     let w = c .before .before .write-decimal in
-    let h = c .before .before .before .before .before .loop-test .taken in
+    let h = at-loop-test .loop-test .taken in
     let e = fields-more (a .values .now) (l .i) h in (
       omega arith,
       w .kept .0 ∙ simp length-set (l .inv .1),
       rw (e, length-append) (omega (arith, w .ensures .0, l .inv .2)),
-      rw (w .ensures .1, l .inv .3, l .inv .2, e) (laid-then (a .out .now) (a .at) (printFields (take (l .i) (a .values .now))) 32 (printDecimal (getD (a .values .now) (l .i) 0)) (omega (arith, fit (c .before .before .before .before .before)))),
+      rw (w .ensures .1, l .inv .3, l .inv .2, e) (laid-then (a .out .now) (a .at) (printFields (take (l .i) (a .values .now))) 32 (printDecimal (getD (a .values .now) (l .i) 0)) (omega (arith, fit (at-loop-test)))),
     )
 
 same-length : tie.Need-same-length Inv-loop μ-loop
@@ -65,7 +72,8 @@ same-length c = search needs
 
 returns : tie.Need-returns Inv-loop μ-loop
 returns c =
-    let e = take-all (c .before .loop .i) (c .before .before .before .before .args .values .now) (c .loop-test .left) in
+    let start = c .before .before .before .before in
+    let e = take-all (c .before .loop .i) (start .args .values .now) (c .loop-test .left) in
     (rw e at (c .before .loop .inv .2), rw e at (c .before .loop .inv .3))
 
 pub write-fields-spec : {M : Type 1} → statement M

@@ -25,23 +25,30 @@ write-fields-requires c κs = simp length-set (omega (arith, c .before .before .
 
 slice-write-out-2 : tie.Need-slice-write-out-2
 slice-write-out-2 c =
+    let place = c .before .before .before .before in
+    let start = place .before .before in
     let w = c .before .before .write-fields in
-    let a = c .before .before .before .before .before .before .args in
-    omega (arith, c .before .before .before .before .before .before .pre, short (c .before .before .before .before), w .ensures .0, w .kept .0, length-set (a .out .now) (a .at) (a .letter))
+    let a = start .args in
+    omega (arith, start .pre, short (place), w .ensures .0, w .kept .0, length-set (a .out .now) (a .at) (a .letter))
 
 add-result : tie.Need-add-result
-add-result c = omega (arith, c .before .before .before .before .before .before .pre, short (c .before .before .before .before), c .before .before .before .before .before .before .good, c .before .before .write-fields .ensures .0)
+add-result c =
+    let place = c .before .before .before .before in
+    let start = place .before .before in
+    omega (arith, start .pre, short (place), start .good, c .before .before .write-fields .ensures .0)
 
 same-length : tie.Need-same-length
 same-length c = simp length-set (simp length-set at (c .before .before .write-fields .kept .0))
 
 returns : tie.Need-returns
 returns c =
-    let a = c .before .before .before .before .before .before .args in
+    let place = c .before .before .before .before in
+    let start = place .before .before in
+    let a = start .args in
     let w = c .before .before .write-fields in
     let F = printFields (a .values .now) in
-    let s = short (c .before .before .before .before) in
-    let p = c .before .before .before .before .before .before .pre in
+    let s = short (place) in
+    let p = start .pre in
     let e : w .result ≡ a .at + length (a .letter ∷ F) = omega (arith, w .ensures .0) in
     let n : w .result + 1 ≡ a .at + length (a .letter ∷ (F ++ (10 ∷ []))) = omega (arith, e, length-append F (10 ∷ [])) in
     (n, (rw (w .ensures .1, e, laid-head (a .out .now) (a .at) (a .letter) F (omega arith)) (laid-set (a .out .now) (a .at) (a .letter ∷ F) 10 (omega arith)), omega arith))

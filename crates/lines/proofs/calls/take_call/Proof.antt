@@ -23,17 +23,21 @@ enum-told c = search needs
 returns : tie.Need-returns
 unfolding takeCall
 returns c =
-    let e : takeNumber max64 (drop (c .before .before .before .before .args .at) (c .before .before .before .before .args .s .now)) ≡ none = sym (c .before .before .read-decimal .ensures) ∙ ap (seen (c .before .before .before .before .args .s .now)) (c .enum-told .given .1) in
+    let start = c .before .before .before .before in
+    let e : takeNumber max64 (drop (start .args .at) (start .args .s .now)) ≡ none = sym (c .before .before .read-decimal .ensures) ∙ ap (seen (start .args .s .now)) (c .enum-told .given .1) in
     (rw e, omega arith)
 
 -- the reading, where there is one
 reading : (c : tie.After-known-told) → takeNumber max64 (drop (c .before .before .before .before .before .args .at) (c .before .before .before .before .before .args .s .now)) ≡ got (c .before .number .given .0 .0) (drop (c .before .number .given .0 .1 .0) (c .before .before .before .before .before .args .s .now))
-reading c = sym (c .before .before .before .read-decimal .ensures) ∙ ap (seen (c .before .before .before .before .before .args .s .now)) (c .before .number .given .1)
+reading c =
+    let start = c .before .before .before .before .before in
+    sym (c .before .before .before .read-decimal .ensures) ∙ ap (seen (start .args .s .now)) (c .before .number .given .1)
 
 returns-2 : tie.Need-returns-2
 unfolding takeCall takeLetter
 returns-2 c =
-    (rw (reading (c .before), drop-of-length-le (c .before .before .before .before .before .before .args .s .now) (c .if1 .taken)), omega arith)
+    let start = c .before .before .before .before .before .before in
+    (rw (reading (c .before), drop-of-length-le (start .args .s .now) (c .if1 .taken)), omega arith)
 
 shared-slice-read-if2 : tie.Need-shared-slice-read-if2
 shared-slice-read-if2 c = search needs
@@ -41,7 +45,9 @@ shared-slice-read-if2 c = search needs
 returns-3 : tie.Need-returns-3
 unfolding takeCall takeLetter
 returns-3 c =
-    (rw (reading (c .before .before .before), front (c .before .before .before .before .before .before .before .before .args .s .now) (c .before .before .before .before .number .given .0 .1 .0) (c .before .before .if1 .left), ne-eqb _ _ (c .if2 .taken)), omega arith)
+    let at-number = c .before .before .before .before in
+    let start = at-number .before .before .before .before in
+    (rw (reading (c .before .before .before), front (start .args .s .now) (at-number .number .given .0 .1 .0) (c .before .before .if1 .left), ne-eqb _ _ (c .if2 .taken)), omega arith)
 
 add-k : tie.Need-add-k
 add-k c = search needs
@@ -49,8 +55,11 @@ add-k c = search needs
 returns-4 : tie.Need-returns-4
 unfolding takeCall takeLetter takeKind
 returns-4 c =
-    let start = c .before .before .before .before .before .before .before .before .before in
-    (rw (reading (c .before .before .before .before), front (start .args .s .now) (c .before .before .before .before .before .number .given .0 .1 .0) (c .before .before .before .if1 .left), eq-eqb _ _ (c .before .if2 .left), drop-of-length-le (start .args .s .now) (c .if3 .taken)), omega arith)
+    let place = c .before .before .before .before in
+    let at-number = place .before in
+    let place-2 = at-number .before .before .before .before in
+    let start = place-2 in
+    (rw (reading (place), front (start .args .s .now) (at-number .number .given .0 .1 .0) (c .before .before .before .if1 .left), eq-eqb _ _ (c .before .if2 .left), drop-of-length-le (start .args .s .now) (c .if3 .taken)), omega arith)
 
 shared-slice-read-letter : tie.Need-shared-slice-read-letter
 shared-slice-read-letter c = search needs
@@ -73,7 +82,8 @@ enum-told-2 c = search needs
 returns-5 : tie.Need-returns-5
 unfolding takeCall takeLetter takeKind
 returns-5 c =
-    let p = c .before .before .before .before .before .before in
+    let place = c .before .before .before .before .before .before in
+    let p = place in
     let s = p .before .before .before .before .before .before .before .before .before .args .s .now in
     let n = p .before .before .before .before .before .number .given .0 .1 .0 in
     let L = limitsOf (getD s (n + 1) 0) in
@@ -92,14 +102,16 @@ call-of-requires c κs = search needs
 returns-6 : tie.Need-returns-6
 unfolding takeCall takeLetter takeKind
 returns-6 c =
-    let p = c .before .before .before .before .before .before .before .before in
+    let at-read-values = c .before .before .before .before .before in
+    let place-2 = at-read-values .before .before .before in
+    let p = place-2 in
     let s = p .before .before .before .before .before .before .before .before .before .args .s .now in
     let n = p .before .before .before .before .before .number .given .0 .1 .0 in
     let k = getD s (n + 1) 0 in
-    let v = c .before .before .before .before .before .read-values .last .1 .1 .1 .0 in
+    let v = at-read-values .read-values .last .1 .1 .1 .0 in
     let end = drop (c .before .before .place .given .0 .0) s in
-    let e : takeRest (limitsOf k) (drop (n + 1 + 1) s) ≡ got (take (length (limitsOf k)) v) end = sym (c .before .before .before .before .before .read-values .ensures .0) ∙ ap (seenAll s (take (length (limitsOf k)) v)) (c .before .before .place .given .1) in
-    (rw (reading (p .before .before .before .before), front s n (p .before .before .before .if1 .left), eq-eqb _ _ (p .before .if2 .left), front s (n + 1) (p .if3 .left), e, made-call (p .before .before .before .before .before .number .given .0 .0) k v end) (c .call-of .ensures .0 s), omega (arith, rw (c .before .before .place .given .1) at (c .before .before .before .before .before .read-values .ensures .1)))
+    let e : takeRest (limitsOf k) (drop (n + 1 + 1) s) ≡ got (take (length (limitsOf k)) v) end = sym (at-read-values .read-values .ensures .0) ∙ ap (seenAll s (take (length (limitsOf k)) v)) (c .before .before .place .given .1) in
+    (rw (reading (p .before .before .before .before), front s n (p .before .before .before .if1 .left), eq-eqb _ _ (p .before .if2 .left), front s (n + 1) (p .if3 .left), e, made-call (p .before .before .before .before .before .number .given .0 .0) k v end) (c .call-of .ensures .0 s), omega (arith, rw (c .before .before .place .given .1) at (at-read-values .read-values .ensures .1)))
 
 pub take-call-spec : {M : Type 1} → statement M
 take-call-spec =

@@ -32,8 +32,10 @@ room-requires c κs = search needs
 returns-2 : tie.Need-returns-2 Inv-loop μ-loop
 unfolding takeNumber
 returns-2 c =
-    let a = c .before .before .before .before .before .before .args in
-    rw (front (a .s .now) (a .at) (c .before .before .before .before .if1 .left), ← c .before .before .digit-of .ensures, ← c .before .room .ensures, not-true (c .before .room .result) (c .if2 .taken))
+    let at-if1 = c .before .before .before .before in
+    let start = at-if1 .before .before in
+    let a = start .args in
+    rw (front (a .s .now) (a .at) (at-if1 .if1 .left), ← c .before .before .digit-of .ensures, ← c .before .room .ensures, not-true (c .before .room .result) (c .if2 .taken))
 
 add-next : tie.Need-add-next Inv-loop μ-loop
 add-next c = search needs
@@ -41,16 +43,20 @@ add-next c = search needs
 returns-3 : tie.Need-returns-3 Inv-loop μ-loop
 unfolding takeNumber
 returns-3 c =
-    let a = c .before .before .before .before .before .before .before .args in
-    rw (front (a .s .now) (a .at) (c .before .before .before .before .before .if1 .left), ← c .before .before .before .digit-of .ensures, ← c .before .before .room .ensures, not-false (c .before .before .room .result) (c .before .if2 .left), eq-eqb _ _ (c .if3 .taken))
+    let at-if1 = c .before .before .before .before .before in
+    let start = at-if1 .before .before in
+    let a = start .args in
+    rw (front (a .s .now) (a .at) (at-if1 .if1 .left), ← c .before .before .before .digit-of .ensures, ← c .before .before .room .ensures, not-false (c .before .before .room .result) (c .before .if2 .left), eq-eqb _ _ (c .if3 .taken))
 
 loop-holds : tie.Need-loop-holds Inv-loop μ-loop
 unfolding takeNumber
 loop-holds c =
-    let a = c .before .before .before .before .before .before .before .args in
+    let at-if1 = c .before .before .before .before .before in
+    let start = at-if1 .before .before in
+    let a = start .args in
     let o = not-false _ (c .before .if2 .left) in
     let r = room→ (a .limit) 0 (c .before .before .before .digit-of .result) (sym (c .before .before .room .ensures) ∙ o) in
-    (omega arith, omega arith, rw (front (a .s .now) (a .at) (c .before .before .before .before .before .if1 .left), ← c .before .before .before .digit-of .ensures, ← c .before .before .room .ensures, o, ne-eqb _ _ (c .if3 .left)))
+    (omega arith, omega arith, rw (front (a .s .now) (a .at) (at-if1 .if1 .left), ← c .before .before .before .digit-of .ensures, ← c .before .before .room .ensures, o, ne-eqb _ _ (c .if3 .left)))
 
 shared-slice-read-digit-of-2 : tie.Need-shared-slice-read-digit-of-2 Inv-loop μ-loop
 shared-slice-read-digit-of-2 c = search needs
@@ -64,9 +70,12 @@ room-requires-2 c κs = search needs
 returns-4 : tie.Need-returns-4 Inv-loop μ-loop
 unfolding takeDigits
 returns-4 c =
-    let l = c .before .before .before .before .before .loop in
-    let a = c .before .before .before .before .before .before .before .before .before .before .before .before .before .args in
-    let f = front (a .s .now) (l .next) (c .before .before .before .before .loop-test .taken) in
+    let at-loop-test = c .before .before .before .before in
+    let at-loop = at-loop-test .before in
+    let start = at-loop .before .before .before .before .before .before .before .before in
+    let l = at-loop .loop in
+    let a = start .args in
+    let f = front (a .s .now) (l .next) (at-loop-test .loop-test .taken) in
     rw f (rw (f, ← c .before .before .digit-of2 .ensures, ← c .before .room2 .ensures, not-true (c .before .room2 .result) (c .if4 .taken)) at (l .inv .2))
 
 -- where the loop goes on: the digit is one, and there is room for it
@@ -89,14 +98,18 @@ loop-less c = search needs
 loop-again : tie.Need-loop-again Inv-loop μ-loop
 unfolding takeDigits
 loop-again c =
-    let l = c .before .before .before .before .before .loop in
-    let a = c .before .before .before .before .before .before .before .before .before .before .before .before .before .args in
-    (more c .1, omega arith, rw (front (a .s .now) (l .next) (c .before .before .before .before .loop-test .taken), ← c .before .before .digit-of2 .ensures, ← c .before .room2 .ensures, not-false (c .before .room2 .result) (c .if4 .left)) at (l .inv .2))
+    let at-loop-test = c .before .before .before .before in
+    let at-loop = at-loop-test .before in
+    let start = at-loop .before .before .before .before .before .before .before .before in
+    let l = at-loop .loop in
+    let a = start .args in
+    (more c .1, omega arith, rw (front (a .s .now) (l .next) (at-loop-test .loop-test .taken), ← c .before .before .digit-of2 .ensures, ← c .before .room2 .ensures, not-false (c .before .room2 .result) (c .if4 .left)) at (l .inv .2))
 
 returns-5 : tie.Need-returns-5 Inv-loop μ-loop
 unfolding takeDigits
 returns-5 c =
-    let a = c .before .before .before .before .before .before .before .before .before .args in
+    let start = c .before .before .before .before .before .before .before .before .before in
+    let a = start .args in
     let e = drop-of-length-le (a .s .now) (c .loop-test .left) in rw e (rw e at (c .before .loop .inv .2))
 
 pub read-decimal-spec : {M : Type 1} → statement M

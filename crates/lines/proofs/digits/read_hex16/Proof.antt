@@ -21,8 +21,9 @@ loop-holds c = search needs
 
 returns : tie.Need-returns Inv-loop μ-loop
 returns c =
+    let start = c .before .before .before .before in
     let l = c .before .before .loop in
-    sym (hex-end (l .i) (l .value) (l .next) (c .before .before .before .before .args .s .now) (c .before .loop-test .taken) (c .if1 .taken)) ∙ l .inv .2
+    sym (hex-end (l .i) (l .value) (l .next) (start .args .s .now) (c .before .loop-test .taken) (c .if1 .taken)) ∙ l .inv .2
 
 shared-slice-read-digit-of : tie.Need-shared-slice-read-digit-of Inv-loop μ-loop
 shared-slice-read-digit-of c = search needs
@@ -33,13 +34,18 @@ digit-of-requires c κs = search needs
 -- where a turn goes on there is room for its digit
 fits : (c : tie.Else2 Inv-loop μ-loop) → let l = c .before .before .before .before .before .loop in let n = l .value * 16 + c .before .digit-of .result in (n < 16 ^ (l .i + 1)) × (n < 2 ^ 64)
 fits c =
-    let l = c .before .before .before .before .before .loop in
-    hex-fits (l .i) (l .value) (c .before .digit-of .result) (c .before .before .before .before .loop-test .taken) (l .inv .1) (c .if2 .left)
+    let at-loop-test = c .before .before .before .before in
+    let at-loop = at-loop-test .before in
+    let l = at-loop .loop in
+    hex-fits (l .i) (l .value) (c .before .digit-of .result) (at-loop-test .loop-test .taken) (l .inv .1) (c .if2 .left)
 
 returns-2 : tie.Need-returns-2 Inv-loop μ-loop
 returns-2 c =
-    let l = c .before .before .before .before .before .loop in
-    let h = hex-step (l .i) (l .value) (l .next) (c .before .before .before .before .before .before .before .args .s .now) (c .before .before .before .before .loop-test .taken) (c .before .before .before .if1 .left) in
+    let at-loop-test = c .before .before .before .before in
+    let at-loop = at-loop-test .before in
+    let start = at-loop .before .before in
+    let l = at-loop .loop in
+    let h = hex-step (l .i) (l .value) (l .next) (start .args .s .now) (at-loop-test .loop-test .taken) (c .before .before .before .if1 .left) in
     sym (rw (← c .before .digit-of .ensures, le-ltb _ _ (c .if2 .taken)) at h) ∙ l .inv .2
 
 mul-value : tie.Need-mul-value Inv-loop μ-loop
@@ -59,8 +65,11 @@ loop-less c = search needs
 
 loop-again : tie.Need-loop-again Inv-loop μ-loop
 loop-again c =
-    let l = c .before .before .before .before .before .loop in
-    let h = hex-step (l .i) (l .value) (l .next) (c .before .before .before .before .before .before .before .args .s .now) (c .before .before .before .before .loop-test .taken) (c .before .before .before .if1 .left) in
+    let at-loop-test = c .before .before .before .before in
+    let at-loop = at-loop-test .before in
+    let start = at-loop .before .before in
+    let l = at-loop .loop in
+    let h = hex-step (l .i) (l .value) (l .next) (start .args .s .now) (at-loop-test .loop-test .taken) (c .before .before .before .if1 .left) in
     (omega arith, fits c .0, sym (rw (← c .before .digit-of .ensures, lt-ltb _ _ (c .if2 .left)) at h) ∙ l .inv .2)
 
 returns-3 : tie.Need-returns-3 Inv-loop μ-loop

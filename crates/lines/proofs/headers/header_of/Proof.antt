@@ -23,14 +23,19 @@ element-copy-out-t14 c = search needs
 
 cast-t15 : tie.Need-cast-t15
 unfolding limitsOf
-cast-t15 c = omega (arith, limited _ (c .before .before .before .before .args .v .now) 67 2 (c .before .before .before .match .keys1) (c .before .before .before .before .pre) (omega arith) refl)
+cast-t15 c =
+    let start = c .before .before .before .before in
+    omega (arith, limited _ (start .args .v .now) 67 2 (c .before .before .before .match .keys1) (start .pre) (omega arith) refl)
 
 element-copy-out-t18 : tie.Need-element-copy-out-t18
 element-copy-out-t18 c = search needs
 
 cast-t19 : tie.Need-cast-t19
 unfolding limitsOf
-cast-t19 c = omega (arith, limited _ (c .before .before .before .before .before .args .v .now) 67 3 (c .before .before .before .before .match .keys1) (c .before .before .before .before .before .pre) (omega arith) refl)
+cast-t19 c =
+    let at-match = c .before .before .before .before in
+    let start = at-match .before in
+    omega (arith, limited _ (start .args .v .now) 67 3 (at-match .match .keys1) (start .pre) (omega arith) refl)
 
 element-copy-out-t23 : tie.Need-element-copy-out-t23
 element-copy-out-t23 c = search needs
@@ -47,7 +52,9 @@ element-copy-out-t30 c = search needs
 
 cast-t31 : tie.Need-cast-t31
 unfolding limitsOf
-cast-t31 c = omega (arith, limited _ (c .before .before .before .before .args .v .now) 82 2 (c .before .before .before .match .keys2) (c .before .before .before .before .pre) (omega arith) refl)
+cast-t31 c =
+    let start = c .before .before .before .before in
+    omega (arith, limited _ (start .args .v .now) 82 2 (c .before .before .before .match .keys2) (start .pre) (omega arith) refl)
 
 element-copy-out-t34 : tie.Need-element-copy-out-t34
 element-copy-out-t34 c = search needs
@@ -58,8 +65,10 @@ element-copy-out-t37 c = search needs
 cast-t38 : tie.Need-cast-t38
 unfolding limitsOf
 cast-t38 c =
-    let start = c .before .before .before .before .before .before in
-    omega (arith, limited _ (start .args .v .now) 82 4 (c .before .before .before .before .before .match .keys2) (start .pre) (omega arith) refl)
+    let at-match = c .before .before .before .before .before in
+    let place = at-match .before in
+    let start = place in
+    omega (arith, limited _ (start .args .v .now) 82 4 (at-match .match .keys2) (start .pre) (omega arith) refl)
 
 element-copy-out-t41 : tie.Need-element-copy-out-t41
 element-copy-out-t41 c = search needs
@@ -67,7 +76,8 @@ element-copy-out-t41 c = search needs
 cast-t42 : tie.Need-cast-t42
 unfolding limitsOf
 cast-t42 c =
-    let p = c .before .before .before .before .before .before in
+    let place = c .before .before .before .before .before .before in
+    let p = place in
     omega (arith, limited _ (p .before .args .v .now) 82 5 (p .match .keys2) (p .before .pre) (omega arith) refl)
 
 element-copy-out-t46 : tie.Need-element-copy-out-t46
@@ -88,7 +98,10 @@ element-copy-out-t56 c = search needs
 
 cast-t57 : tie.Need-cast-t57
 unfolding limitsOf
-cast-t57 c = omega (arith, limited _ (c .before .before .before .before .before .args .v .now) 87 3 (c .before .before .before .before .match .keys3) (c .before .before .before .before .before .pre) (omega arith) refl)
+cast-t57 c =
+    let at-match = c .before .before .before .before in
+    let start = at-match .before in
+    omega (arith, limited _ (start .args .v .now) 87 3 (at-match .match .keys3) (start .pre) (omega arith) refl)
 
 element-copy-out-t60 : tie.Need-element-copy-out-t60
 element-copy-out-t60 c = search needs
@@ -96,18 +109,25 @@ element-copy-out-t60 c = search needs
 cast-t61 : tie.Need-cast-t61
 unfolding limitsOf
 cast-t61 c =
-    let start = c .before .before .before .before .before .before in
-    omega (arith, limited _ (start .args .v .now) 87 4 (c .before .before .before .before .before .match .keys3) (start .pre) (omega arith) refl)
+    let at-match = c .before .before .before .before .before in
+    let place = at-match .before in
+    let start = place in
+    omega (arith, limited _ (start .args .v .now) 87 4 (at-match .match .keys3) (start .pre) (omega arith) refl)
 
 returns : tie.Need-returns
-returns c = (rw (c .before .before .before .before .match .keys1) (λ s. refl), omega arith)
+returns c =
+    let at-match = c .before .before .before .before in
+    (rw (at-match .match .keys1) (λ s. refl), omega arith)
 
 returns-2 : tie.Need-returns-2
 returns-2 c =
-    (rw (c .before .before .before .before .before .before .match .keys2) (λ s. refl), omega arith)
+    let at-match = c .before .before .before .before .before .before in
+    (rw (at-match .match .keys2) (λ s. refl), omega arith)
 
 returns-3 : tie.Need-returns-3
-returns-3 c = (rw (c .before .before .before .before .before .match .keys3) (λ s. refl), omega arith)
+returns-3 c =
+    let at-match = c .before .before .before .before .before in
+    (rw (at-match .match .keys3) (λ s. refl), omega arith)
 
 returns-4 : tie.Need-returns-4
 returns-4 c =

@@ -36,7 +36,8 @@ enum-told c = search needs
 returns-2 : tie.Need-returns-2
 unfolding takeHeader
 returns-2 c =
-    let p = c .before .before .before .before .before .before in
+    let place = c .before .before .before .before .before .before in
+    let p = place in
     let start = p .before .before in
     let s = start .args .s .now in
     let k = getD s (start .args .at) 0 in
@@ -49,9 +50,11 @@ taken : (c : tie.After-known-told) →
     let s = start .args .s .now in let k = getD s (start .args .at) 0 in
     takeRest (limitsOf k) (drop (start .args .at + 1) s) ≡ got (take (length (limitsOf k)) (c .before .before .before .before .read-values .last .1 .1 .1 .0)) (drop (c .before .place .given .0 .0) s)
 taken c =
-    let start = c .before .before .before .before .before .before .before .before .before in
+    let at-read-values = c .before .before .before .before in
+    let place-2 = at-read-values .before .before .before .before .before in
+    let start = place-2 in
     let s = start .args .s .now in
-    sym (c .before .before .before .before .read-values .ensures .0) ∙ ap (seenAll s (take (length (limitsOf (getD s (start .args .at) 0))) (c .before .before .before .before .read-values .last .1 .1 .1 .0))) (c .before .place .given .1)
+    sym (at-read-values .read-values .ensures .0) ∙ ap (seenAll s (take (length (limitsOf (getD s (start .args .at) 0))) (at-read-values .read-values .last .1 .1 .1 .0))) (c .before .place .given .1)
 
 header-of-requires : tie.Need-header-of-requires
 header-of-requires c κs = rest-back _ _ _ _ (taken (c .before)) .0
@@ -59,7 +62,8 @@ header-of-requires c κs = rest-back _ _ _ _ (taken (c .before)) .0
 returns-3 : tie.Need-returns-3
 unfolding takeHeader
 returns-3 c =
-    let p = c .before .before .before .before .before .before in
+    let place-2 = c .before .before .before .before .before .before in
+    let p = place-2 in
     let start = p .before .before .before .before .before in
     let s = start .args .s .now in
     let k = getD s (start .args .at) 0 in

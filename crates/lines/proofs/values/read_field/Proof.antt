@@ -16,7 +16,9 @@ shared-slice-read-if2 c = search needs
 
 returns-2 : tie.Need-returns-2
 unfolding takeField
-returns-2 c = rw (front (c .before .before .before .before .args .s .now) (c .before .before .before .before .args .at) (c .before .before .if1 .left), ne-eqb _ _ (c .if2 .taken))
+returns-2 c =
+    let start = c .before .before .before .before in
+    rw (front (start .args .s .now) (start .args .at) (c .before .before .if1 .left), ne-eqb _ _ (c .if2 .taken))
 
 add-read-hex16 : tie.Need-add-read-hex16
 add-read-hex16 c = search needs
@@ -27,8 +29,10 @@ read-hex16-requires c κs = search needs
 returns-3 : tie.Need-returns-3
 unfolding takeField
 returns-3 c =
-    let start = c .before .before .before .before .before .before in
-    rw (front (start .args .s .now) (start .args .at) (c .before .before .before .before .if1 .left), eq-eqb _ _ (c .before .before .if2 .left), eq-eqb _ _ (c .before .if3 .taken)) (c .read-hex16 .ensures)
+    let at-if1 = c .before .before .before .before in
+    let place = at-if1 .before .before in
+    let start = place in
+    rw (front (start .args .s .now) (start .args .at) (at-if1 .if1 .left), eq-eqb _ _ (c .before .before .if2 .left), eq-eqb _ _ (c .before .if3 .taken)) (c .read-hex16 .ensures)
 
 add-read-decimal : tie.Need-add-read-decimal
 add-read-decimal c = search needs
@@ -39,8 +43,10 @@ read-decimal-requires c κs = search needs
 returns-4 : tie.Need-returns-4
 unfolding takeField
 returns-4 c =
-    let start = c .before .before .before .before .before .before in
-    rw (front (start .args .s .now) (start .args .at) (c .before .before .before .before .if1 .left), eq-eqb _ _ (c .before .before .if2 .left), ne-eqb _ _ (c .before .if3 .left)) (c .read-decimal .ensures)
+    let at-if1 = c .before .before .before .before in
+    let place = at-if1 .before .before in
+    let start = place in
+    rw (front (start .args .s .now) (start .args .at) (at-if1 .if1 .left), eq-eqb _ _ (c .before .before .if2 .left), ne-eqb _ _ (c .before .if3 .left)) (c .read-decimal .ensures)
 
 pub read-field-spec : {M : Type 1} → statement M
 read-field-spec =

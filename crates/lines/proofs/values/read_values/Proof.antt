@@ -52,8 +52,10 @@ limit c =
 
 returns : tie.Need-returns Inv-loop μ-loop
 returns c =
-    let p = c .before .before .before .before .before .before in
-    let l = c .before .before .before .before .loop in
+    let at-loop = c .before .before .before .before in
+    let place = at-loop .before .before in
+    let p = place in
+    let l = at-loop .loop in
     let a = p .before .before .before .args in
     let e : takeField (getD (limitsOf (a .letter)) (l .i) 0) (drop (l .next) (a .s .now)) ≡ none = rw (limit (c .before .before .before)) at (sym (c .before .before .read-field .ensures) ∙ ap (seen (a .s .now)) (c .enum-told .given .1)) in
     (sym (rest-bad (limitsOf (a .letter)) (take (l .i) (l .out)) (drop (l .next) (a .s .now)) (l .i) (omega (arith, c .before .before .before .loop-test .taken, p .limits-of .ensures)) e) ∙ l .inv .2, omega arith)
@@ -63,8 +65,11 @@ mul-out c = search needs
 
 slice-write-out : tie.Need-slice-write-out Inv-loop μ-loop
 slice-write-out c =
-    let p = c .before .before .before .before .before .before .before in
-    omega (arith, c .before .before .before .before .before .loop .inv .1, c .before .before .before .before .loop-test .taken, p .limits-of .ensures, p .before .before .before .pre)
+    let at-loop-test = c .before .before .before .before in
+    let at-loop = at-loop-test .before in
+    let place = at-loop .before .before in
+    let p = place in
+    omega (arith, at-loop .loop .inv .1, at-loop-test .loop-test .taken, p .limits-of .ensures, p .before .before .before .pre)
 
 add-i : tie.Need-add-i Inv-loop μ-loop
 add-i c = search needs
@@ -74,14 +79,17 @@ loop-less c = omega arith
 
 loop-again : tie.Need-loop-again Inv-loop μ-loop
 loop-again c =
-    let p = c .before .before .before .before .before .before .before in
+    let at-loop-test = c .before .before .before .before in
+    let at-loop = at-loop-test .before in
+    let place = at-loop .before .before in
+    let p = place in
     let start = p .before .before .before in
-    let l = c .before .before .before .before .before .loop in
+    let l = at-loop .loop in
     let a = start .args in
     let g = c .before .field .given in
-    let h : l .i < length (limitsOf (a .letter)) = omega (arith, c .before .before .before .before .loop-test .taken, p .limits-of .ensures) in
-    let e : takeField (getD (limitsOf (a .letter)) (l .i) 0) (drop (l .next) (a .s .now)) ≡ got (g .0 .0) (drop (g .0 .1 .0) (a .s .now)) = rw (limit (c .before .before .before .before)) at (sym (c .before .before .before .read-field .ensures) ∙ ap (seen (a .s .now)) (g .1)) in
-    (omega arith, simp length-set (l .inv .1), sym (rest-more (limitsOf (a .letter)) (l .out) (drop (l .next) (a .s .now)) (l .i) (g .0 .0) (drop (g .0 .1 .0) (a .s .now)) h (omega (arith, c .before .before .before .before .loop-test .taken, p .limits-of .ensures, l .inv .1, start .pre)) e) ∙ l .inv .2)
+    let h : l .i < length (limitsOf (a .letter)) = omega (arith, at-loop-test .loop-test .taken, p .limits-of .ensures) in
+    let e : takeField (getD (limitsOf (a .letter)) (l .i) 0) (drop (l .next) (a .s .now)) ≡ got (g .0 .0) (drop (g .0 .1 .0) (a .s .now)) = rw (limit (at-loop-test)) at (sym (c .before .before .before .read-field .ensures) ∙ ap (seen (a .s .now)) (g .1)) in
+    (omega arith, simp length-set (l .inv .1), sym (rest-more (limitsOf (a .letter)) (l .out) (drop (l .next) (a .s .now)) (l .i) (g .0 .0) (drop (g .0 .1 .0) (a .s .now)) h (omega (arith, at-loop-test .loop-test .taken, p .limits-of .ensures, l .inv .1, start .pre)) e) ∙ l .inv .2)
 
 same-length-2 : tie.Need-same-length-2 Inv-loop μ-loop
 same-length-2 c = search needs
@@ -89,8 +97,10 @@ same-length-2 c = search needs
 returns-2 : tie.Need-returns-2 Inv-loop μ-loop
 unfolding takeRest
 returns-2 c =
-    let start = c .before .before .before .before .before .before .before in
-    let n : length (limitsOf (start .args .letter)) ≤ c .before .before .loop .i = omega (arith, c .before .loop-test .left, c .before .before .before .before .limits-of .ensures) in
+    let at-limits-of = c .before .before .before .before in
+    let place = at-limits-of .before .before .before in
+    let start = place in
+    let n : length (limitsOf (start .args .letter)) ≤ c .before .before .loop .i = omega (arith, c .before .loop-test .left, at-limits-of .limits-of .ensures) in
     (rw (drop-of-length-le (limitsOf (start .args .letter)) n, drop-of-length-le (start .args .s .now) (c .if1 .taken)) at (c .before .before .loop .inv .2), omega arith)
 
 shared-slice-read-if2 : tie.Need-shared-slice-read-if2 Inv-loop μ-loop
@@ -102,10 +112,12 @@ same-length-3 c = search needs
 returns-3 : tie.Need-returns-3 Inv-loop μ-loop
 unfolding takeRest
 returns-3 c =
-    let p = c .before .before .before .before .before .before in
+    let at-loop = c .before .before .before .before in
+    let place = at-loop .before .before in
+    let p = place in
     let start = p .before .before .before in
-    let n : length (limitsOf (start .args .letter)) ≤ c .before .before .before .before .loop .i = omega (arith, c .before .before .before .loop-test .left, p .limits-of .ensures) in
-    (rw (drop-of-length-le (limitsOf (start .args .letter)) n, front (start .args .s .now) (c .before .before .before .before .loop .next) (c .before .before .if1 .left), ne-eqb _ _ (c .if2 .taken)) at (c .before .before .before .before .loop .inv .2), omega arith)
+    let n : length (limitsOf (start .args .letter)) ≤ at-loop .loop .i = omega (arith, c .before .before .before .loop-test .left, p .limits-of .ensures) in
+    (rw (drop-of-length-le (limitsOf (start .args .letter)) n, front (start .args .s .now) (at-loop .loop .next) (c .before .before .if1 .left), ne-eqb _ _ (c .if2 .taken)) at (at-loop .loop .inv .2), omega arith)
 
 add-t19 : tie.Need-add-t19 Inv-loop μ-loop
 add-t19 c = search needs
@@ -116,11 +128,13 @@ same-length-4 c = search needs
 returns-4 : tie.Need-returns-4 Inv-loop μ-loop
 unfolding takeRest
 returns-4 c =
-    let p = c .before .before .before .before .before .before in
+    let at-loop = c .before .before .before .before in
+    let place = at-loop .before .before in
+    let p = place in
     let start = p .before .before .before in
-    let n : length (limitsOf (start .args .letter)) ≤ c .before .before .before .before .loop .i = omega (arith, c .before .before .before .loop-test .left, p .limits-of .ensures) in
-    let m : c .before .before .before .before .loop .i ≡ length (limitsOf (start .args .letter)) = omega (arith, c .before .before .before .before .loop .inv .0) in
-    (rw (drop-of-length-le (limitsOf (start .args .letter)) n, front (start .args .s .now) (c .before .before .before .before .loop .next) (c .before .before .if1 .left), eq-eqb _ _ (c .if2 .left), append-nil, m) at (c .before .before .before .before .loop .inv .2), omega arith)
+    let n : length (limitsOf (start .args .letter)) ≤ at-loop .loop .i = omega (arith, c .before .before .before .loop-test .left, p .limits-of .ensures) in
+    let m : at-loop .loop .i ≡ length (limitsOf (start .args .letter)) = omega (arith, at-loop .loop .inv .0) in
+    (rw (drop-of-length-le (limitsOf (start .args .letter)) n, front (start .args .s .now) (at-loop .loop .next) (c .before .before .if1 .left), eq-eqb _ _ (c .if2 .left), append-nil, m) at (at-loop .loop .inv .2), omega arith)
 
 pub read-values-spec : {M : Type 1} → statement M
 read-values-spec =

@@ -17,7 +17,9 @@ same-length-2 : tie.Need-same-length-2
 same-length-2 c = search needs
 
 returns : tie.Need-returns
-returns c = (cross-all _ _ _ _ (c .pack-settled .ensures) _ _ (c .before .before .before .before .before .finish-all .ensures .0), c .before .before .before .before .before .finish-all .ensures .1)
+returns c =
+    let at-finish-all = c .before .before .before .before .before in
+    (cross-all _ _ _ _ (c .pack-settled .ensures) _ _ (at-finish-all .finish-all .ensures .0), at-finish-all .finish-all .ensures .1)
 
 pub finish-all-spec : {M : Type 1} → statement M
 finish-all-spec =

@@ -17,7 +17,9 @@ same-length : tie.Need-same-length
 same-length c = search needs
 
 returns : tie.Need-returns
-returns c = cross _ _ _ _ (c .pack-settled .ensures) _ (rw (c .before .before .before .before .ticket-by .ensures) at (c .before .before .before .settle .ensures))
+returns c =
+    let at-ticket-by = c .before .before .before .before in
+    cross _ _ _ _ (c .pack-settled .ensures) _ (rw (at-ticket-by .ticket-by .ensures) at (c .before .before .before .settle .ensures))
 
 pub settle-spec : {M : Type 1} → statement M
 settle-spec =

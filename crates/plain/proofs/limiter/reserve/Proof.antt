@@ -31,7 +31,13 @@ same-length-2 : tie.Need-same-length-2
 same-length-2 c = search needs
 
 returns-2 : tie.Need-returns-2
-returns-2 c = cross _ _ _ _ (c .pack-reserving .ensures) _ (rw (c .before .before .before .before .before .reservation-by .ensures) at (c .before .before .before .reserve .ensures) ∙ known-reply _ _ _ _ (sym (c .before .before .before .before .before .before .before .is-reservable .ensures) ∙ not-false (c .before .before .before .before .before .before .before .is-reservable .result) (c .before .before .before .before .before .before .if1 .left)))
+returns-2 c =
+    let at-reservation-by = c .before .before .before .before .before in
+    let at-if1 = at-reservation-by .before in
+    let at-is-reservable = at-if1 .before in
+    let k = at-is-reservable .is-reservable in
+    let known = sym (k .ensures) ∙ not-false (k .result) (at-if1 .if1 .left) in
+    cross _ _ _ _ (c .pack-reserving .ensures) _ (rw (at-reservation-by .reservation-by .ensures) at (c .before .before .before .reserve .ensures) ∙ known-reply _ _ _ _ known)
 
 pub reserve-spec : {M : Type 1} → statement M
 reserve-spec =

@@ -17,7 +17,9 @@ same-length : tie.Need-same-length
 same-length c = search needs
 
 returns : tie.Need-returns
-returns c = cross-start _ _ _ _ _ _ (c .pack-beginning .ensures) _ (rw (c .before .before .before .before .before .pending-by .ensures) at (c .before .before .before .start .ensures))
+returns c =
+    let at-pending-by = c .before .before .before .before .before in
+    cross-start _ _ _ _ _ _ (c .pack-beginning .ensures) _ (rw (at-pending-by .pending-by .ensures) at (c .before .before .before .start .ensures))
 
 pub wait-start-spec : {M : Type 1} → statement M
 wait-start-spec =

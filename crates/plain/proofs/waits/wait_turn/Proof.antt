@@ -17,7 +17,9 @@ same-length : tie.Need-same-length
 same-length c = search needs
 
 returns : tie.Need-returns
-returns c = cross-turn _ _ _ _ _ _ (c .pack-awaiting .ensures) _ (rw (c .before .before .before .before .before .pending-by .ensures) at (c .before .before .before .turn .ensures))
+returns c =
+    let at-pending-by = c .before .before .before .before .before in
+    cross-turn _ _ _ _ _ _ (c .pack-awaiting .ensures) _ (rw (at-pending-by .pending-by .ensures) at (c .before .before .before .turn .ensures))
 
 pub wait-turn-spec : {M : Type 1} → statement M
 wait-turn-spec =

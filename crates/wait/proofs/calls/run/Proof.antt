@@ -40,13 +40,16 @@ ran-as-requires-2 c κs = search needs
 
 returns-2 : tie.Need-returns-2 Inv-loop μ-loop
 returns-2 c =
-    let args = c .before .before .before .before .before .before .before .before .args in
-    let loop = c .before .before .before .before .before .loop in
+    let place = c .before .before .before .before .before in
+    let c5 = place in
+    let args = c5 .before .before .before .args in
+    let loop = c5 .loop in
     ap tellRun (c .ran-as2 .ensures ∙ ap (λ (a : Ran). ranAs a (loop .taken) (loop .reached)) (stop-is keep (loop .reached) _ _ (c .before .before .has-ended .ensures) (c .before .stop .ensures)) ∙ sym (at-limit keep (args .turns .now) (args .limit) (loop .at) (loop .taken) (loop .reached) (c .before .before .before .if2 .taken)) ∙ loop .inv .2)
 
 turn-at-requires : tie.Need-turn-at-requires Inv-loop μ-loop
 turn-at-requires c κs =
-    let args = c .before .before .before .before .before .args in
+    let start = c .before .before .before .before .before in
+    let args = start .args in
     (omega (arith, a-turn (args .turns .now) (args .limit) (c .before .before .loop .at) (c .before .before .loop .taken) (c .before .before .loop .inv .0) (c .before .loop-test .taken), length-drop (c .before .before .loop .at) (args .turns .now)))
 
 test-requires : tie.Need-test-requires Inv-loop μ-loop
@@ -60,19 +63,25 @@ ran-as-requires-3 c κs = search needs
 
 returns-3 : tie.Need-returns-3 Inv-loop μ-loop
 returns-3 c =
-    let args = c .before .before .before .before .before .before .before .before .before .before .before .args in
-    let loop = c .before .before .before .before .before .before .before .before .loop in
-    let loop-test = c .before .before .before .before .before .before .before .loop-test in
-    let if2 = c .before .before .before .before .before .before .if2 in
-    let turn-at = c .before .before .before .before .before .turn-at in
-    ap tellRun (c .ran-as3 .ensures ∙ run-refused keep (args .turns .now) (args .limit) (loop .at) (loop .taken) (loop .reached) _ (turn-at .result) (loop .inv .0) (loop-test .taken) (if2 .left) (loop .inv .2) (turn-at .ensures) (c .before .before .verdict .given .0 .0) (sym (c .before .before .verdict .given .1) ∙ c .before .before .before .before .test .ensures))
+    let at-test = c .before .before .before .before in
+    let place = at-test .before in
+    let c5 = place in
+    let c10 = c5 .before .before .before .before .before in
+    let args = c10 .before .args in
+    let loop = c5 .before .before .before .loop in
+    let loop-test = c5 .before .before .loop-test in
+    let if2 = c5 .before .if2 in
+    let turn-at = c5 .turn-at in
+    ap tellRun (c .ran-as3 .ensures ∙ run-refused keep (args .turns .now) (args .limit) (loop .at) (loop .taken) (loop .reached) _ (turn-at .result) (loop .inv .0) (loop-test .taken) (if2 .left) (loop .inv .2) (turn-at .ensures) (c .before .before .verdict .given .0 .0) (sym (c .before .before .verdict .given .1) ∙ at-test .test .ensures))
 
 enum-told : tie.Need-enum-told Inv-loop μ-loop
 enum-told c = search needs
 
 moves-requires : tie.Need-moves-requires Inv-loop μ-loop
 moves-requires c κs =
-    let loop = c .before .before .before .before .before .before .loop in
+    let place = c .before .before .before .before .before in
+    let c5 = place in
+    let loop = c5 .before .loop in
     passes-bounds keep (loop .reached) (c .before .before .before .turn-at .result) (sym (c .enum-told .given .1) ∙ c .before .before .test .ensures)
 
 enum-known-step : tie.Need-enum-known-step Inv-loop μ-loop
@@ -92,15 +101,19 @@ ran-as-requires-4 c κs = search needs
 
 returns-4 : tie.Need-returns-4 Inv-loop μ-loop
 returns-4 c =
-    let args = c .before .before .before .before .before .before .before .before .before .before .before .before .before .before .before .args in
-    let loop = c .before .before .before .before .before .before .before .before .before .before .before .before .loop in
-    let loop-test = c .before .before .before .before .before .before .before .before .before .before .before .loop-test in
-    let if2 = c .before .before .before .before .before .before .before .before .before .before .if2 in
-    let turn-at = c .before .before .before .before .before .before .before .before .before .turn-at in
-    let test = c .before .before .before .before .before .before .before .before .test in
-    let enum-told = c .before .before .before .before .before .before .enum-told in
+    let place = c .before .before .before .before .before in
+    let c5 = place in
+    let c10 = c5 .before .before .before .before .before in
+    let c15 = c10 .before .before .before .before .before in
+    let args = c15 .args in
+    let loop = c10 .before .before .loop in
+    let loop-test = c10 .before .loop-test in
+    let if2 = c10 .if2 in
+    let turn-at = c5 .before .before .before .before .turn-at in
+    let test = c5 .before .before .before .test in
+    let enum-told = c5 .before .enum-told in
     let step2 = c .before .before .before .step2 in
-    ap tellRun (c .ran-as4 .ensures ∙ ap (ranAs (Ends (step2 .given .0 .0)) (loop .taken + 1)) (c .before .ended-wait .ensures) ∙ run-ends keep (args .turns .now) (args .limit) (loop .at) (loop .taken) (loop .reached) _ (turn-at .result) (loop .inv .0) (loop-test .taken) (if2 .left) (loop .inv .2) (turn-at .ensures) (step2 .given .0 .0) (sym (enum-told .given .1) ∙ test .ensures) (sym (step2 .given .1) ∙ c .before .before .before .before .before .moves .ensures))
+    ap tellRun (c .ran-as4 .ensures ∙ ap (ranAs (Ends (step2 .given .0 .0)) (loop .taken + 1)) (c .before .ended-wait .ensures) ∙ run-ends keep (args .turns .now) (args .limit) (loop .at) (loop .taken) (loop .reached) _ (turn-at .result) (loop .inv .0) (loop-test .taken) (if2 .left) (loop .inv .2) (turn-at .ensures) (step2 .given .0 .0) (sym (enum-told .given .1) ∙ test .ensures) (sym (step2 .given .1) ∙ c5 .moves .ensures))
 
 add-at : tie.Need-add-at Inv-loop μ-loop
 add-at c = search needs
@@ -110,20 +123,27 @@ add-taken c = search needs
 
 loop-less : tie.Need-loop-less Inv-loop μ-loop
 loop-less c =
-    let args = c .before .before .before .before .before .before .before .before .before .before .before .before .before .args in
-    let loop = c .before .before .before .before .before .before .before .before .before .before .loop in
-    let loop-test = c .before .before .before .before .before .before .before .before .before .loop-test in
+    let place = c .before .before .before .before .before in
+    let c5 = place in
+    let c10 = c5 .before .before .before .before .before in
+    let args = c10 .before .before .before .args in
+    let loop = c10 .loop in
+    let loop-test = c5 .before .before .before .before .loop-test in
     next-less (args .turns .now) (args .limit) (loop .at) (loop .taken) (loop-test .taken)
 
 loop-again : tie.Need-loop-again Inv-loop μ-loop
 loop-again c =
-    let args = c .before .before .before .before .before .before .before .before .before .before .before .before .before .args in
-    let loop = c .before .before .before .before .before .before .before .before .before .before .loop in
-    let loop-test = c .before .before .before .before .before .before .before .before .before .loop-test in
-    let if2 = c .before .before .before .before .before .before .before .before .if2 in
-    let turn-at = c .before .before .before .before .before .before .before .turn-at in
-    let test = c .before .before .before .before .before .before .test in
-    (next-whole (args .turns .now) (args .limit) (loop .at) (loop .taken) (loop .inv .0) (loop-test .taken), omega (arith, if2 .left), run-goes keep (args .turns .now) (args .limit) (loop .at) (loop .taken) (loop .reached) _ (turn-at .result) (loop .inv .0) (loop-test .taken) (if2 .left) (loop .inv .2) (turn-at .ensures) (c .before .step .given .0 .0) (c .before .step .given .0 .1 .0) (sym (c .before .before .before .before .enum-told .given .1) ∙ test .ensures) (sym (c .before .step .given .1) ∙ c .before .before .before .moves .ensures))
+    let at-enum-told = c .before .before .before .before in
+    let place = at-enum-told .before in
+    let c5 = place in
+    let c10 = c5 .before .before .before .before .before in
+    let args = c10 .before .before .before .args in
+    let loop = c10 .loop in
+    let loop-test = c5 .before .before .before .before .loop-test in
+    let if2 = c5 .before .before .before .if2 in
+    let turn-at = c5 .before .before .turn-at in
+    let test = c5 .before .test in
+    (next-whole (args .turns .now) (args .limit) (loop .at) (loop .taken) (loop .inv .0) (loop-test .taken), omega (arith, if2 .left), run-goes keep (args .turns .now) (args .limit) (loop .at) (loop .taken) (loop .reached) _ (turn-at .result) (loop .inv .0) (loop-test .taken) (if2 .left) (loop .inv .2) (turn-at .ensures) (c .before .step .given .0 .0) (c .before .step .given .0 .1 .0) (sym (at-enum-told .enum-told .given .1) ∙ test .ensures) (sym (c .before .step .given .1) ∙ c .before .before .before .moves .ensures))
 
 has-ended-requires-2 : tie.Need-has-ended-requires-2 Inv-loop μ-loop
 has-ended-requires-2 c κs = search needs
@@ -136,8 +156,11 @@ ran-as-requires-5 c κs = search needs
 
 returns-5 : tie.Need-returns-5 Inv-loop μ-loop
 returns-5 c =
-    let args = c .before .before .before .before .before .before .before .args in
-    let loop = c .before .before .before .before .loop in
+    let at-loop = c .before .before .before .before in
+    let place = at-loop .before in
+    let c5 = place in
+    let args = c5 .before .before .args in
+    let loop = at-loop .loop in
     ap tellRun (c .ran-as5 .ensures ∙ ap (λ (a : Ran). ranAs a (loop .taken) (loop .reached)) (stop-is keep (loop .reached) _ _ (c .before .before .has-ended2 .ensures) (c .before .stop2 .ensures)) ∙ sym (at-end keep (args .turns .now) (args .limit) (loop .at) (loop .taken) (loop .reached) (c .before .before .before .loop-test .left)) ∙ loop .inv .2)
 
 pub run-spec : {M : Type 1} → statement M

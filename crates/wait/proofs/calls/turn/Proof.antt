@@ -16,7 +16,8 @@ enum-known-verdict c = search needs
 
 returns : tie.Need-returns
 returns c =
-    let args = c .before .before .before .before .args in
+    let start = c .before .before .before .before in
+    let args = start .args in
     ap tellTurn (turn-refused keep (args .wait) (args .turn) (c .before .verdict .given .0 .0) (sym (c .before .verdict .given .1) ∙ c .before .before .before .test .ensures))
 
 enum-told : tie.Need-enum-told
@@ -38,15 +39,21 @@ ended-wait-requires c κs = search needs
 
 returns-2 : tie.Need-returns-2
 returns-2 c =
-    let args = c .before .before .before .before .before .before .before .args in
-    let test = c .before .before .before .before .before .before .test in
-    ap tellTurn (turn-passed keep (args .wait) (args .turn) (Goes (c .before .step .given .0 .0) (c .before .step .given .0 .1 .0)) (sym (c .before .before .before .before .enum-told .given .1) ∙ test .ensures) (sym (c .before .step .given .1) ∙ c .before .before .before .moves .ensures))
+    let at-enum-told = c .before .before .before .before in
+    let place = at-enum-told .before in
+    let c5 = place in
+    let args = c5 .before .before .args in
+    let test = c5 .before .test in
+    ap tellTurn (turn-passed keep (args .wait) (args .turn) (Goes (c .before .step .given .0 .0) (c .before .step .given .0 .1 .0)) (sym (at-enum-told .enum-told .given .1) ∙ test .ensures) (sym (c .before .step .given .1) ∙ c .before .before .before .moves .ensures))
 
 returns-3 : tie.Need-returns-3
 returns-3 c =
-    let args = c .before .before .before .before .before .before .before .before .args in
-    let test = c .before .before .before .before .before .before .before .test in
-    ap (waitAfter _) (c .ended-wait .ensures) ∙ ap tellTurn (turn-passed keep (args .wait) (args .turn) (Ends (c .before .before .step2 .given .0 .0)) (sym (c .before .before .before .before .before .enum-told .given .1) ∙ test .ensures) (sym (c .before .before .step2 .given .1) ∙ c .before .before .before .before .moves .ensures))
+    let at-moves = c .before .before .before .before in
+    let place = at-moves .before in
+    let c5 = place in
+    let args = c5 .before .before .before .args in
+    let test = c5 .before .before .test in
+    ap (waitAfter _) (c .ended-wait .ensures) ∙ ap tellTurn (turn-passed keep (args .wait) (args .turn) (Ends (c .before .before .step2 .given .0 .0)) (sym (c5 .enum-told .given .1) ∙ test .ensures) (sym (c .before .before .step2 .given .1) ∙ at-moves .moves .ensures))
 
 pub turn-spec : {M : Type 1} → statement M
 turn-spec =

@@ -18,16 +18,18 @@ ended-wait-requires c κs = search needs
 
 returns-3 : tie.Need-returns-3
 returns-3 c =
+    let at-if1 = c .before .before .before .before in
     let wait-in-bounds = c .before .before .before .wait-in-bounds in
-    simp (c .before .before .before .before .if1 .left, ← wait-in-bounds .ensures, not-false (wait-in-bounds .result) (c .before .before .if2 .left), c .before .if3 .taken, c .ended-wait .ensures)
+    simp (at-if1 .if1 .left, ← wait-in-bounds .ensures, not-false (wait-in-bounds .result) (c .before .before .if2 .left), c .before .if3 .taken, c .ended-wait .ensures)
 
 ended-wait-requires-2 : tie.Need-ended-wait-requires-2
 ended-wait-requires-2 c κs = search needs
 
 returns-4 : tie.Need-returns-4
 returns-4 c =
+    let at-if1 = c .before .before .before .before in
     let wait-in-bounds = c .before .before .before .wait-in-bounds in
-    simp (c .before .before .before .before .if1 .left, ← wait-in-bounds .ensures, not-false (wait-in-bounds .result) (c .before .before .if2 .left), c .before .if3 .left, c .ended-wait2 .ensures)
+    simp (at-if1 .if1 .left, ← wait-in-bounds .ensures, not-false (wait-in-bounds .result) (c .before .before .if2 .left), c .before .if3 .left, c .ended-wait2 .ensures)
 
 pub drop-as-spec : {M : Type 1} → statement M
 drop-as-spec =

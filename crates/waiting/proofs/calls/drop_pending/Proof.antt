@@ -9,9 +9,10 @@ use Rattle.waiting.proofs.Steps.{drop-tested, drop-refused, drop-gives}
 use Rattle.waiting.proofs.calls.drop_pending.Statement.{statement}
 use Rattle.waiting.proofs.calls.drop_pending.Tie as tie
 
-sound-now : (c : tie.After-enum-told) → sound (c .before .before .before .before .before .args .breaker) (c .before .before .before .before .before .args .list .now) ≡ true
+sound-now : (c : tie.After-enum-told) → let args = c .before .before .before .before .before .args in sound (args .breaker) (args .list .now) ≡ true
 sound-now c =
-    let args = c .before .before .before .before .before .args in
+    let start = c .before .before .before .before .before in
+    let args = start .args in
     tested-sound (args .breaker) (args .list .now) (sym (c .enum-told .given .1) ∙ c .before .before .test .ensures)
 
 test-requires : tie.Need-test-requires
@@ -43,7 +44,9 @@ same-length c = search needs
 
 returns : tie.Need-returns
 returns c =
-    let args = c .before .before .before .before .before .before .args in
+    let place = c .before .before .before .before .before in
+    let c5 = place in
+    let args = c5 .before .args in
     drop-tested (args .breaker) (args .list .now) (args .pending) (c .before .r .given .0 .0) (sym (c .before .r .given .1) ∙ c .before .before .before .test .ensures)
 
 same-length-2 : tie.Need-same-length-2
@@ -51,20 +54,28 @@ same-length-2 c = search needs
 
 returns-2 : tie.Need-returns-2
 returns-2 c =
-    let args = c .before .before .before .before .before .before .before .before .before .before .args in
-    let drop-wait = c .before .before .before .before .drop-wait in
+    let at-drop-wait = c .before .before .before .before in
+    let place = at-drop-wait .before in
+    let c5 = place in
+    let c10 = c5 .before .before .before .before .before in
+    let args = c10 .args in
+    let drop-wait = at-drop-wait .drop-wait in
     let with-wait = c .before .before .before .with-wait in
-    drop-refused (args .breaker) (args .list .now) (args .pending) (sound-now (c .before .before .before .before .before)) (drop-wait .result) (dropping-one _ _ (drop-wait .ensures)) (with-wait .result) (with-wait .ensures) (c .before .answer .given .0 .0) (c .before .answer .given .1)
+    drop-refused (args .breaker) (args .list .now) (args .pending) (sound-now c5) (drop-wait .result) (dropping-one _ _ (drop-wait .ensures)) (with-wait .result) (with-wait .ensures) (c .before .answer .given .0 .0) (c .before .answer .given .1)
 
 same-length-3 : tie.Need-same-length-3
 same-length-3 c = search needs
 
 returns-3 : tie.Need-returns-3
 returns-3 c =
-    let args = c .before .before .before .before .before .before .before .before .before .before .before .args in
-    let drop-wait = c .before .before .before .before .before .drop-wait in
-    let with-wait = c .before .before .before .before .with-wait in
-    drop-gives (args .breaker) (args .list .now) (args .pending) (sound-now (c .before .before .before .before .before .before)) (drop-wait .result) (dropping-one _ _ (drop-wait .ensures)) (with-wait .result) (with-wait .ensures) (c .before .before .answer2 .given .0 .0) (c .abort-locked .result) (c .before .before .answer2 .given .1) (c .abort-locked .ensures)
+    let at-with-wait = c .before .before .before .before in
+    let place = at-with-wait .before in
+    let c5 = place in
+    let c10 = c5 .before .before .before .before .before in
+    let args = c10 .before .args in
+    let drop-wait = c5 .drop-wait in
+    let with-wait = at-with-wait .with-wait in
+    drop-gives (args .breaker) (args .list .now) (args .pending) (sound-now (c5 .before)) (drop-wait .result) (dropping-one _ _ (drop-wait .ensures)) (with-wait .result) (with-wait .ensures) (c .before .before .answer2 .given .0 .0) (c .abort-locked .result) (c .before .before .answer2 .given .1) (c .abort-locked .ensures)
 
 pub drop-pending-spec : {M : Type 1} → statement M
 drop-pending-spec =

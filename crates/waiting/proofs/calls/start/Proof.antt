@@ -10,9 +10,10 @@ use Rattle.waiting.proofs.Steps.{start-tested, start-refused, start-gra
 use Rattle.waiting.proofs.calls.start.Statement.{statement}
 use Rattle.waiting.proofs.calls.start.Tie as tie
 
-sound-now : (c : tie.After-enum-told) → sound (c .before .before .before .before .before .args .breaker) (c .before .before .before .before .before .args .list .now) ≡ true
+sound-now : (c : tie.After-enum-told) → let args = c .before .before .before .before .before .args in sound (args .breaker) (args .list .now) ≡ true
 sound-now c =
-    let args = c .before .before .before .before .before .args in
+    let start = c .before .before .before .before .before in
+    let args = start .args in
     tested-sound (args .breaker) (args .list .now) (sym (c .enum-told .given .1) ∙ c .before .before .test .ensures)
 
 test-requires : tie.Need-test-requires
@@ -47,8 +48,9 @@ same-length c = search needs
 
 returns : tie.Need-returns
 returns c =
-    let the-args = c .before .before .before .before .before .before .args in
-    let args = the-args in
+    let place = c .before .before .before .before .before in
+    let c5 = place in
+    let args = c5 .before .args in
     start-tested (args .now-ms) (args .clock) (args .limited) (args .timeout) (args .breaker) (args .list .now) (args .pending) (c .before .r .given .0 .0) (sym (c .before .r .given .1) ∙ c .before .before .before .test .ensures)
 
 same-length-2 : tie.Need-same-length-2
@@ -56,37 +58,39 @@ same-length-2 c = search needs
 
 returns-2 : tie.Need-returns-2
 returns-2 c =
-    let the-args = c .before .before .before .before .before .before .before .before .before .args in
-    let args = the-args in
-    start-refused (args .now-ms) (args .clock) (args .limited) (args .timeout) (args .breaker) (args .list .now) (args .pending) (sound-now (c .before .before .before .before)) (c .before .r2 .given .0 .0) (ap startedTold (sym (c .before .r2 .given .1)) ∙ c .before .before .before .start .ensures)
+    let place = c .before .before .before .before in
+    let place-2 = place .before in
+    let c5 = place-2 in
+    let args = c5 .before .before .before .before .args in
+    start-refused (args .now-ms) (args .clock) (args .limited) (args .timeout) (args .breaker) (args .list .now) (args .pending) (sound-now (place)) (c .before .r2 .given .0 .0) (ap startedTold (sym (c .before .r2 .given .1)) ∙ c .before .before .before .start .ensures)
 
 same-length-3 : tie.Need-same-length-3
 same-length-3 c = search needs
 
 returns-3 : tie.Need-returns-3
 returns-3 c =
-    let the-args = c .before .before .before .before .before .before .before .before .before .before .before .before .before .args in
-    let the-before = c .before .before .before .before .before .before .before .before in
-    let the-start = c .before .before .before .before .before .before .before .start in
-    let args = the-args in
-    let before = the-before in
-    let start = the-start in
-    let wait = c .before .before .before .before .before .wait in
-    start-granted (args .now-ms) (args .clock) (args .limited) (args .timeout) (args .breaker) (args .list .now) (args .pending) (sound-now before) (wait .given .0 .0) (ap startedTold (sym (wait .given .1)) ∙ start .ensures) (c .before .ticket .given .0 .0) (c .before .ticket .given .0 .1 .0) (sym (c .before .ticket .given .1) ∙ c .before .before .before .admit-as-locked .ensures (args .breaker .config) (state (args .breaker) (args .list .now)) (stored-state (args .breaker) (args .list .now) (sound-now before)))
+    let place = c .before .before .before .before .before in
+    let c5 = place in
+    let c10 = c5 .before .before .before .before .before in
+    let args = c10 .before .before .before .args in
+    let passed = c5 .before .before .before in
+    let start = c5 .before .before .start in
+    let wait = c5 .wait in
+    start-granted (args .now-ms) (args .clock) (args .limited) (args .timeout) (args .breaker) (args .list .now) (args .pending) (sound-now passed) (wait .given .0 .0) (ap startedTold (sym (wait .given .1)) ∙ start .ensures) (c .before .ticket .given .0 .0) (c .before .ticket .given .0 .1 .0) (sym (c .before .ticket .given .1) ∙ c .before .before .before .admit-as-locked .ensures (args .breaker .config) (state (args .breaker) (args .list .now)) (stored-state (args .breaker) (args .list .now) (sound-now passed)))
 
 same-length-4 : tie.Need-same-length-4
 same-length-4 c = search needs
 
 returns-4 : tie.Need-returns-4
 returns-4 c =
-    let the-args = c .before .before .before .before .before .before .before .before .before .before .before .before .before .args in
-    let the-before = c .before .before .before .before .before .before .before .before in
-    let the-start = c .before .before .before .before .before .before .before .start in
-    let args = the-args in
-    let before = the-before in
-    let start = the-start in
-    let wait = c .before .before .before .before .before .wait in
-    start-shed (args .now-ms) (args .clock) (args .limited) (args .timeout) (args .breaker) (args .list .now) (args .pending) (sound-now before) (wait .given .0 .0) (ap startedTold (sym (wait .given .1)) ∙ start .ensures) (c .before .d .given .0 .0) (sym (c .before .d .given .1) ∙ c .before .before .before .admit-as-locked .ensures (args .breaker .config) (state (args .breaker) (args .list .now)) (stored-state (args .breaker) (args .list .now) (sound-now before)))
+    let place = c .before .before .before .before .before in
+    let c5 = place in
+    let c10 = c5 .before .before .before .before .before in
+    let args = c10 .before .before .before .args in
+    let passed = c5 .before .before .before in
+    let start = c5 .before .before .start in
+    let wait = c5 .wait in
+    start-shed (args .now-ms) (args .clock) (args .limited) (args .timeout) (args .breaker) (args .list .now) (args .pending) (sound-now passed) (wait .given .0 .0) (ap startedTold (sym (wait .given .1)) ∙ start .ensures) (c .before .d .given .0 .0) (sym (c .before .d .given .1) ∙ c .before .before .before .admit-as-locked .ensures (args .breaker .config) (state (args .breaker) (args .list .now)) (stored-state (args .breaker) (args .list .now) (sound-now passed)))
 
 pub start-spec : {M : Type 1} → statement M
 start-spec =

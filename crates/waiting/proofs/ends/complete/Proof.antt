@@ -37,7 +37,8 @@ given-up-requires-3 c κs = search needs
 
 returns : tie.Need-returns
 returns c =
-    let args = c .before .before .before .before .args in
+    let start = c .before .before .before .before in
+    let args = start .args in
     λ cfg st e. c .given-up .ensures cfg st e ∙ ap (λ (x : Ending). kept cfg (completes x (args .now-ms) (args .capacity) (args .ticket) st)) (sym (c .before .before .ending .given .1))
 
 returns-2 : tie.Need-returns-2
@@ -47,13 +48,17 @@ returns-2 c =
 
 returns-3 : tie.Need-returns-3
 returns-3 c =
-    let args = c .before .before .before .before .before .args in
+    let start = c .before .before .before .before .before in
+    let args = start .args in
     λ cfg st e. still-admits cfg (args .now-ms) (args .capacity) (args .ticket) st (args .breaker) e (sym (c .enum-told3 .given .1) ∙ c .before .before .still-admits-locked .ensures cfg st e) ∙ ap (λ (x : Ending). kept cfg (completes x (args .now-ms) (args .capacity) (args .ticket) st)) (sym (c .before .before .before .enum-told2 .given .1))
 
 returns-4 : tie.Need-returns-4
 returns-4 c =
-    let args = c .before .before .before .before .before .before .before .args in
-    λ cfg st e. sheds-now cfg (args .now-ms) (args .capacity) (args .ticket) st (c .before .before .d .given .0 .0) _ (sym (c .before .before .d .given .1) ∙ c .before .before .before .before .still-admits-locked .ensures cfg st e) (c .given-up3 .ensures cfg st e) ∙ ap (λ (x : Ending). kept cfg (completes x (args .now-ms) (args .capacity) (args .ticket) st)) (sym (c .before .before .before .before .before .enum-told2 .given .1))
+    let at-still-admits-locked = c .before .before .before .before in
+    let place = at-still-admits-locked .before in
+    let c5 = place in
+    let args = c5 .before .before .args in
+    λ cfg st e. sheds-now cfg (args .now-ms) (args .capacity) (args .ticket) st (c .before .before .d .given .0 .0) _ (sym (c .before .before .d .given .1) ∙ at-still-admits-locked .still-admits-locked .ensures cfg st e) (c .given-up3 .ensures cfg st e) ∙ ap (λ (x : Ending). kept cfg (completes x (args .now-ms) (args .capacity) (args .ticket) st)) (sym (c5 .enum-told2 .given .1))
 
 pub complete-spec : {M : Type 1} → statement M
 complete-spec =
