@@ -85,7 +85,7 @@ fn finish_each(
 // Runs a sequence of finishing calls at one reading, given as slices of equal length; each call's number goes to `answers`.
 // In `probes`, `settles` and `marks` 0 is false, any other number true.
 // The first clause binds this code; the second says of the same rules that demand 3 holds from a sound HalfOpen breaker.
-// Ruled out: one that acts on the first call only; one that goes on from a stale record.
+// Ruled out: one that acts on every other call; one that goes on from a stale record.
 pub fn finish_all(
     breaker: Breaker,
     list: &mut [u64],

@@ -62,7 +62,7 @@ pub fn abort_as(breaker: Breaker, list: &mut [u64], ticket: Ticket, via_trait: b
 }
 
 // Frees one trial that was taken through the trait side.
-// Ruled out: one that frees a plain probe; one that frees all trait probes.
+// Ruled out: a refusal told as done; one that frees a plain probe.
 pub fn release_trait_probe(breaker: Breaker, list: &mut [u64]) -> Settled
     ensures { λ r. ⌜
         after (finishedTold (r .answer)) (r .breaker) (now (list .exit))
@@ -82,7 +82,7 @@ pub fn release_trait_probe(breaker: Breaker, list: &mut [u64]) -> Settled
 }
 
 // Reports an outcome without a ticket.
-// Ruled out: one that frees a probe it did not use up; one that uses up two.
+// Ruled out: every outcome taken for good; one that uses up two trait probes.
 pub fn record_manual(breaker: Breaker, list: &mut [u64], now_ms: u64, success: bool) -> Settled
     ensures { λ r. ⌜
         after (finishedTold (r .answer)) (r .breaker) (now (list .exit))
@@ -99,7 +99,7 @@ pub fn record_manual(breaker: Breaker, list: &mut [u64], now_ms: u64, success: b
 }
 
 // Forces the breaker Closed and empties its history.
-// Ruled out: a generation kept from Closed; open-until set to 0.
+// Ruled out: a refusal told as done; a generation kept from Closed.
 pub fn reset(breaker: Breaker, list: &mut [u64]) -> Settled
     ensures { λ r. ⌜ after (finishedTold (r .answer)) (r .breaker) (now (list .exit)) ≡ onSound (λ s st. Rules.reset st) breaker (now (list .entry)) ⌝ }
 {

@@ -33,7 +33,7 @@ pub fn permit_failure(breaker: Breaker, list: &mut [u64], now_ms: u64, ticket: T
 }
 
 // A permit that was dropped unsettled: a failure.
-// Ruled out: a drop that records nothing; one that aborts.
+// Ruled out: a drop counted as good; one that aborts.
 pub fn permit_dropped(breaker: Breaker, list: &mut [u64], now_ms: u64, ticket: Ticket) -> Settled
     ensures { λ r. ⌜
         after (finishedTold (r .answer)) (r .breaker) (now (list .exit)) ≡ onSound (Calls.settle «now_ms» ticket false) breaker (now (list .entry))
@@ -43,7 +43,7 @@ pub fn permit_dropped(breaker: Breaker, list: &mut [u64], now_ms: u64, ticket: T
 }
 
 // Gives the admission back, with a notice to refund 1 to the inner limiter.
-// Ruled out: no notice for a stale ticket; an outcome recorded.
+// Ruled out: a notice to refund 0; an outcome recorded.
 pub fn permit_cancel(breaker: Breaker, list: &mut [u64], ticket: Ticket) -> Noticed
     ensures { λ r. ⌜ after (noticeTold (r .answer)) (r .breaker) (now (list .exit)) ≡ onSound (Calls.cancel ticket) breaker (now (list .entry)) ⌝ }
 {

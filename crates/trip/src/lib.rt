@@ -322,7 +322,7 @@ impl CircuitBreakerBuilder {
     }
 
     // The settings of a record, normalised, or refusal 1, then 2.
-    // Ruled out: 2 told before 1; a window of 4,097 cut to 4,096.
+    // Ruled out: 2 told before 1; a window of 4,097 taken.
     pub fn config(self) -> Built
         ensures { λ r. ⌜ builtTold r ≡ builtTold (builtOf self) ⌝ }
     {
