@@ -6,10 +6,10 @@
 #include <time.h>
 
 bool leaf_sound(const uint64_t *list, size_t n, uint32_t len, uint32_t window);
-uint64_t leaf_failures(const uint64_t *list, size_t n, uint32_t len);
-uint32_t leaf_recent(const uint64_t *list, size_t n, uint32_t len, uint64_t cutoff);
-uint32_t leaf_push_outcome(uint64_t *list, size_t n, uint32_t len, uint32_t window, bool failed);
-uint32_t leaf_push_time(uint64_t *list, size_t n, uint32_t len, uint64_t reading, uint64_t period);
+uint64_t leaf_failures(const uint64_t *list, size_t n, uint32_t first, uint32_t len);
+uint32_t leaf_recent(const uint64_t *list, size_t n, uint32_t first, uint32_t len, uint64_t cutoff);
+uint32_t leaf_expired(const uint64_t *list, size_t n, uint32_t len, uint64_t cutoff);
+uint32_t leaf_turn_over(uint64_t *list, size_t n, uint32_t len, uint32_t gone, uint64_t item);
 
 enum { PLACES = 4096, RUNS = 41, CALLS = 4000 };
 static uint64_t list[PLACES];
@@ -60,19 +60,20 @@ int main(void) {
     for (size_t i = 0; i < PLACES; i++) list[i] = i % 2;
     TIME("sound_list, 4,096 outcomes", leaf_sound(list, PLACES, PLACES, PLACES));
     TIME("  C: or of 4,096", c_or(list, PLACES));
-    TIME("count_failures, 4,096 outcomes", leaf_failures(list, PLACES, PLACES));
+    TIME("count_failures, 4,096 outcomes", leaf_failures(list, PLACES, 0, PLACES));
+    TIME("count_failures, 4,096 outcomes but the first", leaf_failures(list, PLACES, 1, PLACES));
     TIME("  C: sum of 4,096", c_sum(list, PLACES));
-    TIME("push_outcome, window 4,096, full", leaf_push_outcome(list, PLACES, PLACES, PLACES, i % 2));
+    TIME("turn_over, 4,096 items, 1 gone", leaf_turn_over(list, PLACES, PLACES, 1, i % 2));
     TIME("  C: memmove of 4,095 and a store", (c_push(list, PLACES, i % 2), 0));
     for (size_t i = 0; i < PLACES; i++) list[i] = i < 100 ? i % 2 : 0;
     TIME("sound_list, 100 outcomes", leaf_sound(list, PLACES, 100, 100));
-    TIME("count_failures, 100 outcomes", leaf_failures(list, PLACES, 100));
-    TIME("push_outcome, window 100, full", leaf_push_outcome(list, PLACES, 100, 100, i % 2));
+    TIME("count_failures, 100 outcomes", leaf_failures(list, PLACES, 0, 100));
+    TIME("turn_over, 100 items, 1 gone", leaf_turn_over(list, PLACES, 100, 1, i % 2));
     for (size_t i = 0; i < PLACES; i++) list[i] = 1000 + i;
-    TIME("count_recent, 4,096 times, all recent", leaf_recent(list, PLACES, PLACES, list[0]));
-    TIME("count_recent, 4,096 times, not all", leaf_recent(list, PLACES, PLACES, 3000));
+    TIME("count_recent, 4,096 times, all recent", leaf_recent(list, PLACES, 0, PLACES, list[0]));
+    TIME("count_recent, 4,096 times, not all", leaf_recent(list, PLACES, 0, PLACES, 3000));
     TIME("  C: count of 4,096 by a comparison", c_recent(list, PLACES, 3000));
-    TIME("push_time, 4,096 times, 1 evicted", leaf_push_time(list, PLACES, PLACES, list[PLACES - 1] + 1, PLACES - 1));
-    TIME("push_time, 4,096 times, refused", leaf_push_time(list, PLACES, PLACES, list[PLACES - 1], UINT64_MAX));
+    TIME("count_expired, 4,096 times, 1 gone", leaf_expired(list, PLACES, PLACES, 1001));
+    TIME("count_expired, 4,096 times, all gone", leaf_expired(list, PLACES, PLACES, 9999));
     return 0;
 }

@@ -22,26 +22,26 @@ pub extern "C" fn leaf_sound(list: &[u64], len: u32, window: u32) -> bool {
     history::sound_list(list, len, Items::Outcomes(window))
 }
 #[no_mangle]
-pub extern "C" fn leaf_failures(list: &[u64], len: u32) -> u64 {
-    history::count_failures(list, len)
+pub extern "C" fn leaf_failures(list: &[u64], first: u32, len: u32) -> u64 {
+    history::count_failures(list, first, len)
 }
 #[no_mangle]
-pub extern "C" fn leaf_recent(list: &[u64], len: u32, cutoff: u64) -> u32 {
-    history::count_recent(list, len, cutoff)
+pub extern "C" fn leaf_recent(list: &[u64], first: u32, len: u32, cutoff: u64) -> u32 {
+    history::count_recent(list, first, len, cutoff)
 }
 #[no_mangle]
-pub extern "C" fn leaf_push_outcome(list: &mut [u64], len: u32, window: u32, failed: bool) -> u32 {
-    number(history::push_outcome(list, len, window, failed))
+pub extern "C" fn leaf_expired(list: &[u64], len: u32, cutoff: u64) -> u32 {
+    history::count_expired(list, len, cutoff)
 }
 #[no_mangle]
-pub extern "C" fn leaf_push_time(list: &mut [u64], len: u32, reading: u64, period: u64) -> u32 {
-    number(history::push_time(list, len, reading, period))
+pub extern "C" fn leaf_turn_over(list: &mut [u64], len: u32, gone: u32, item: u64) -> u32 {
+    number(history::turn_over(list, len, gone, item))
 }
 RT
 (cd "$work" && rt staticlib leaves > build.out 2>&1) || { tail -5 "$work/build.out"; exit 1; }
 lib=$work/target/staticlib/libleaves.a
 cc -O3 -Wall -Wextra -o "$work/leaves" "$top/bench/leaves.c" "$lib"
-for f in leaf_sound leaf_failures leaf_recent leaf_push_outcome leaf_push_time; do
+for f in leaf_sound leaf_failures leaf_recent leaf_expired leaf_turn_over; do
     objdump -dr --disassemble=$f --no-show-raw-insn "$lib" > "$work/$f.s"
     printf '%s: %s instructions, %s on vector registers, calls: %s\n' "$f" "$(grep -c '^ ' "$work/$f.s" || true)" \
         "$(grep -c 'xmm' "$work/$f.s" || true)" "$(grep -o 'mem[a-z]*' "$work/$f.s" | sort -u | tr '\n' ' ')"
