@@ -23,7 +23,7 @@ pub extern "C" fn pudvirez_wait_start(
     ensures { λ r. ⌜
         crossingWait r (now (breaker .exit)) (now (list .exit)) (now (pending .exit))
         ≡ crossedStart
-        (Waits.starting «now_ms» clock (flagOf limited) timeout (now (breaker .entry)) (now (list .entry)) (pendingBy (now (pending .entry))))
+        (Waits.startPending «now_ms» clock (flagOf limited) timeout (now (breaker .entry)) (now (list .entry)) (pendingBy (now (pending .entry))))
         (now (pending .entry))
         ⌝ }
 {
@@ -46,7 +46,7 @@ pub extern "C" fn pudvirez_wait_turn(
 ) -> Waited
     ensures { λ r. ⌜
         crossingWait r (now (breaker .exit)) (now (list .exit)) (now (pending .exit))
-        ≡ crossedTurn (Waits.turning turn «now_ms» capacity (now (breaker .entry)) (now (list .entry)) (pendingBy (now (pending .entry))))
+        ≡ crossedTurn (Waits.turnPending turn «now_ms» capacity (now (breaker .entry)) (now (list .entry)) (pendingBy (now (pending .entry))))
         (now (pending .entry))
         ⌝ }
 {
@@ -71,7 +71,7 @@ pub extern "C" fn pudvirez_wait_run(
     ensures { λ r. ⌜
         crossingWait r (now (breaker .exit)) (now (list .exit)) (now (pending .exit))
         ≡ crossedRun
-        (Waits.running (now (turns .entry)) limit «now_ms» capacity (now (breaker .entry)) (now (list .entry)) (pendingBy (now (pending .entry))))
+        (Waits.runPending (now (turns .entry)) limit «now_ms» capacity (now (breaker .entry)) (now (list .entry)) (pendingBy (now (pending .entry))))
         (now (pending .entry))
         ⌝ }
 {
@@ -91,7 +91,7 @@ pub extern "C" fn pudvirez_wait_drop(
 ) -> Waited
     ensures { λ r. ⌜
         crossingWait r (now (breaker .exit)) (now (list .exit)) (now (pending .exit))
-        ≡ crossedTurn (Waits.leaving (now (breaker .entry)) (now (list .entry)) (pendingBy (now (pending .entry)))) (now (pending .entry))
+        ≡ crossedTurn (Waits.dropPending (now (breaker .entry)) (now (list .entry)) (pendingBy (now (pending .entry)))) (now (pending .entry))
         ⌝ }
 {
     let s = plain::wait_drop(*breaker, list, *pending);

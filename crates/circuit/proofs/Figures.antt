@@ -10,7 +10,7 @@ use Rattle.trip.specs.declared.Config.{Config}
 use Rattle.trip.specs.Policy.{boardFigure}
 use Rattle.breaker.specs.Record.{State, settings, itemsOf}
 use Rattle.breaker.specs.Calls.{board}
-use Rattle.steps.proofs.Deciding.{is-run, is-outcomes, is-times}
+use Rattle.outcomes.proofs.Deciding.{is-run, is-outcomes, is-times}
 
 module _ (c : Config) (st : State) where
   pub board-nothing : itemsOf c ≡ Nothing → tell 0 (0 ∷ []) ≡ board (settings c) st

@@ -14,11 +14,11 @@ use breaker::Ticket;
 use breaker::items_of;
 use breaker::test;
 use history::Items;
+use outcomes::close;
+use outcomes::manual_locked;
+use outcomes::settle_locked;
 use steps::abort_locked;
-use steps::close;
-use steps::manual_locked;
 use steps::release_locked;
-use steps::settle_locked;
 
 // Reports the outcome of a call with its ticket.
 // Ruled out: one that ignores its ticket; a success that keeps the run when it closes.

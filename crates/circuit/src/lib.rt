@@ -1,10 +1,8 @@
-// What came of an admission, by value over lent storage: outcomes with and without a ticket, aborts, resets, permits, sequences of finishing
-// calls, and the board figure (circuit.rs of the Rust).
-mod batch;
+// What came of an admission, by value over lent storage: outcomes with and without a ticket, aborts, resets, permits, and the board figure
+// (circuit.rs of the Rust).
 mod calls;
 mod permits;
 
-pub use batch::finish_all;
 pub use calls::abort_as;
 pub use calls::board;
 pub use calls::record_manual;

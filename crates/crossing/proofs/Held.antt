@@ -25,12 +25,12 @@ use Rattle.wait.specs.declared.Ran.the-variants as Ran·is
 use Rattle.wait.specs.declared.Dropped.{Dropped}
 use Rattle.wait.specs.declared.Dropped.the-variants as Dropped·is
 use Rattle.wait.specs.Turns.{started}
-use Rattle.wait.specs.Keep.{keep}
+use Rattle.keep.specs.Keep.{keep}
 use Rattle.wait.specs.Manner.{turned, dropped}
 use Rattle.wait.specs.Run.{wholeTurns, runs}
 use Rattle.waiting.specs.declared.Pending.{Pending}
 use Rattle.waiting.specs.Calls as Waits
-use Rattle.waiting.specs.Calls.{starting, turning, running, leaving}
+use Rattle.waiting.specs.Calls.{startPending, turnPending, runPending, dropPending}
 use Rattle.crossing.specs.declared.PlainPending.{PlainPending}
 use Rattle.crossing.specs.Waits.{pendingBy, plainPending, afterStart, afterTurn}
 
@@ -69,8 +69,8 @@ module _ (handed : PlainPending) where
     started-held (Started·is.Made w) reading = begins-held w (admit (settings (b .config)) reading (state b s))
     started-held (Started·is.Refused r) reading = refused-held r
 
-    pub start-held : (reading clock : ℕ) (limited : Bool) (timeout : ℕ) → StartHeld (starting reading clock limited timeout b s p)
-    unfolding starting
+    pub start-held : (reading clock : ℕ) (limited : Bool) (timeout : ℕ) → StartHeld (startPending reading clock limited timeout b s p)
+    unfolding startPending
     start-held reading clock limited timeout = guarded-cases StartHeld (λ r. Waits.pendingAfter (refused r) b s p) _ b s refused-held (started-held (started clock limited timeout) reading)
 
     turned-held : (x : Turned) (w : Wait) (reading capacity : ℕ) → TurnHeld (Waits.turnedTo x w reading capacity b s p)
@@ -78,8 +78,8 @@ module _ (handed : PlainPending) where
     turned-held (Turned·is.Ends e) w reading capacity = refl
     turned-held (Turned·is.Refused r) w reading capacity = refl
 
-    pub turn-held : (t : Observed) (reading capacity : ℕ) → TurnHeld (turning t reading capacity b s p)
-    unfolding turning
+    pub turn-held : (t : Observed) (reading capacity : ℕ) → TurnHeld (turnPending t reading capacity b s p)
+    unfolding turnPending
     turn-held t reading capacity = guarded-cases TurnHeld (λ r. Waits.pendingAfter (refused r) b s p) _ b s (λ r. refl) (turned-held (turned keep (p .wait) t .answer) (turned keep (p .wait) t .wait) reading capacity)
 
     ran-held : (x : Ran) (w : Wait) (reading capacity : ℕ) → TurnHeld (Waits.ranTo x w reading capacity b s p)
@@ -87,8 +87,8 @@ module _ (handed : PlainPending) where
     ran-held Ran·is.Unfinished w reading capacity = refl
     ran-held (Ran·is.Refused r) w reading capacity = refl
 
-    pub run-held : (turns : List ℕ) (limit reading capacity : ℕ) → TurnHeld (running turns limit reading capacity b s p .left)
-    unfolding running
+    pub run-held : (turns : List ℕ) (limit reading capacity : ℕ) → TurnHeld (runPending turns limit reading capacity b s p .left)
+    unfolding runPending
     run-held turns limit reading capacity =
         let Held : Waits.PendingRun → Type 0 = λ x. TurnHeld (x .left) in
         if-cases Held (wholeTurns turns)
@@ -99,6 +99,6 @@ module _ (handed : PlainPending) where
     dropped-held (Dropped·is.GiveBack n) w = refl
     dropped-held (Dropped·is.Refused r) w = refl
 
-    pub drop-held : TurnHeld (leaving b s p)
-    unfolding leaving
+    pub drop-held : TurnHeld (dropPending b s p)
+    unfolding dropPending
     drop-held = guarded-cases TurnHeld (λ r. Waits.pendingAfter (refused r) b s p) _ b s (λ r. refl) (dropped-held (dropped keep (p .wait) .answer) (dropped keep (p .wait) .wait))

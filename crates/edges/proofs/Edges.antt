@@ -18,7 +18,7 @@ use Rattle.wait.specs.declared.Act.the-variants.{Yield}
 use Rattle.wait.specs.declared.Ending.the-variants.{Deadline}
 use Rattle.wait.specs.Turns.{endedWait, newWait, withZeros, turnInBounds, waitInBounds, retries, retriesZero}
 use Rattle.wait.specs.Manner.{turnedAs, turned}
-use Rattle.wait.specs.Keep.{moves, keep}
+use Rattle.keep.specs.Keep.{moves, keep}
 use Rattle.edges.specs.Edges.{retryNow, P2, P3, P4, P5, P6, P7, P9, P10, P11, P12, edges, All}
 
 p2 : P2

@@ -20,7 +20,7 @@ use Rattle.wait.specs.declared.Wait.{Wait}
 use Rattle.wait.specs.declared.Observed.{Observed}
 use Rattle.wait.specs.Turns.{newWait}
 use Rattle.wait.specs.Manner.{turned, tellTurn}
-use Rattle.wait.specs.Keep.{keep}
+use Rattle.keep.specs.Keep.{keep}
 
 -- "P1 n 0 becomes 1."
 abbrev pub P1 : Type 0

@@ -287,7 +287,7 @@ pub fn finish_all(
         → FinishingOrders «now_ms» (now (breaker .entry)) (now (list .entry)))
         ⌝ }
 {
-    let s = circuit::finish_all(
+    let s = batch::finish_all(
         *breaker,
         list,
         now_ms,
@@ -316,7 +316,7 @@ pub fn wait_start(
 ) -> Begun
     ensures { λ r. ⌜
         pendingAfter (begunTold r) (now (breaker .exit)) (now (list .exit)) (now (pending .exit))
-        ≡ Waits.starting «now_ms» clock limited timeout (now (breaker .entry)) (now (list .entry)) (now (pending .entry))
+        ≡ Waits.startPending «now_ms» clock limited timeout (now (breaker .entry)) (now (list .entry)) (now (pending .entry))
         ⌝ }
 {
     let s = waiting::start(*breaker, list, *pending, now_ms, clock, limited, timeout);
@@ -337,7 +337,7 @@ pub fn wait_turn(
 ) -> Awaited
     ensures { λ r. ⌜
         pendingAfter (awaitedTold r) (now (breaker .exit)) (now (list .exit)) (now (pending .exit))
-        ≡ Waits.turning turn «now_ms» capacity (now (breaker .entry)) (now (list .entry)) (now (pending .entry))
+        ≡ Waits.turnPending turn «now_ms» capacity (now (breaker .entry)) (now (list .entry)) (now (pending .entry))
         ⌝ }
 {
     let s = waiting::turn(*breaker, list, *pending, turn, now_ms, capacity);
@@ -359,7 +359,7 @@ pub fn wait_run(
 ) -> Progress
     ensures { λ r. ⌜
         pendingRun (pendingAfter (courseTold (r .course)) (now (breaker .exit)) (now (list .exit)) (now (pending .exit))) (r .taken)
-        ≡ Waits.running (now (turns .entry)) limit «now_ms» capacity (now (breaker .entry)) (now (list .entry)) (now (pending .entry))
+        ≡ Waits.runPending (now (turns .entry)) limit «now_ms» capacity (now (breaker .entry)) (now (list .entry)) (now (pending .entry))
         ⌝ }
 {
     let s = waiting::run(*breaker, list, *pending, turns, limit, now_ms, capacity);
@@ -373,7 +373,7 @@ pub fn wait_run(
 pub fn wait_drop(breaker: &mut Breaker, list: &mut [u64], pending: &mut Pending) -> Dropped
     ensures { λ r. ⌜
         pendingAfter (droppedTold r) (now (breaker .exit)) (now (list .exit)) (now (pending .exit))
-        ≡ Waits.leaving (now (breaker .entry)) (now (list .entry)) (now (pending .entry))
+        ≡ Waits.dropPending (now (breaker .entry)) (now (list .entry)) (now (pending .entry))
         ⌝ }
 {
     let s = waiting::drop_pending(*breaker, list, *pending);

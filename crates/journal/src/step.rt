@@ -14,11 +14,11 @@ use breaker::Settled;
 use breaker::Ticket;
 use error::Refusal;
 use lines::Call;
+use outcomes::close;
+use outcomes::settle_locked;
 use steps::Entry;
 use steps::abort_locked;
 use steps::admit_as_locked;
-use steps::close;
-use steps::settle_locked;
 
 // `E` and the number.
 fn refusal(why: Refusal) -> Answer

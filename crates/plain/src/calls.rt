@@ -157,7 +157,7 @@ pub fn finish_all(
         (sound breaker (now (list .entry)) ≡ true → breaker .shared .state ≡ HalfOpen → FinishingOrders «now_ms» breaker (now (list .entry)))
         ⌝ }
 {
-    pack_settled(circuit::finish_all(
+    pack_settled(batch::finish_all(
         breaker,
         list,
         now_ms,

@@ -1,7 +1,7 @@
 // The calls of a wait before a breaker. One that is refused leaves the breaker as it was.
 ghost use mathlib.Core.Path.{_≡_};
 ghost use Rattle.error.specs.Choice.{flagOf};
-ghost use Rattle.waiting.specs.Calls.{starting, turning, running, leaving};
+ghost use Rattle.waiting.specs.Calls.{startPending, turnPending, runPending, dropPending};
 ghost use Rattle.crossing.specs.Waits.{crossingWait, crossedStart, crossedTurn, crossedRun, pendingBy};
 use crate::WaitStep;
 use crate::pack_wait::pack_awaiting;
@@ -26,7 +26,7 @@ pub fn wait_start(
 ) -> WaitStep
     ensures { λ r. ⌜
         crossingWait (r .answer) (r .breaker) (now (list .exit)) (r .pending)
-        ≡ crossedStart (starting «now_ms» clock (flagOf limited) timeout breaker (now (list .entry)) (pendingBy pending)) pending
+        ≡ crossedStart (startPending «now_ms» clock (flagOf limited) timeout breaker (now (list .entry)) (pendingBy pending)) pending
         ⌝ }
 {
     let handed = pending_by(pending);
@@ -48,7 +48,7 @@ pub fn wait_turn(
 ) -> WaitStep
     ensures { λ r. ⌜
         crossingWait (r .answer) (r .breaker) (now (list .exit)) (r .pending)
-        ≡ crossedTurn (turning turn «now_ms» capacity breaker (now (list .entry)) (pendingBy pending)) pending
+        ≡ crossedTurn (turnPending turn «now_ms» capacity breaker (now (list .entry)) (pendingBy pending)) pending
         ⌝ }
 {
     let handed = pending_by(pending);
@@ -71,7 +71,7 @@ pub fn wait_run(
 ) -> WaitStep
     ensures { λ r. ⌜
         crossingWait (r .answer) (r .breaker) (now (list .exit)) (r .pending)
-        ≡ crossedRun (running (now (turns .entry)) limit «now_ms» capacity breaker (now (list .entry)) (pendingBy pending)) pending
+        ≡ crossedRun (runPending (now (turns .entry)) limit «now_ms» capacity breaker (now (list .entry)) (pendingBy pending)) pending
         ⌝ }
 {
     let handed = pending_by(pending);
@@ -86,7 +86,7 @@ pub fn wait_run(
 pub fn wait_drop(breaker: Breaker, list: &mut [u64], pending: PlainPending) -> WaitStep
     ensures { λ r. ⌜
         crossingWait (r .answer) (r .breaker) (now (list .exit)) (r .pending)
-        ≡ crossedTurn (leaving breaker (now (list .entry)) (pendingBy pending)) pending
+        ≡ crossedTurn (dropPending breaker (now (list .entry)) (pendingBy pending)) pending
         ⌝ }
 {
     let handed = pending_by(pending);

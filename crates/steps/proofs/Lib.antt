@@ -2,5 +2,3 @@
 pub mod Holding
 pub mod Entering
 pub mod Aborting
-pub mod Deciding
-pub mod Settling

@@ -6,8 +6,9 @@ ghost use Prim.Native.Nat.{ℕ, _+_, _-_, _^_, min};
 ghost use lib.ListN.{length};
 ghost use Rattle.trip.specs.declared.Config.{Config};
 ghost use Rattle.breaker.specs.Record.{State, settings, stored};
-ghost use Rattle.breaker.specs.Rules.{next, withCounts, withHistory, moved, opening};
+ghost use Rattle.breaker.specs.Rules.{next, withCounts, withHistory, moved, opening, closing};
 use breaker::Breaker;
+use breaker::CLOSED;
 use breaker::Counts;
 use breaker::OPEN;
 use breaker::no_counts;
@@ -83,4 +84,14 @@ pub fn opened(b: Breaker, now_ms: u64) -> Breaker
 {
     let until = capped_sum(now_ms, b.config.cooldown_ms);
     transition(with_counts(b, no_counts()), OPEN, until)
+}
+
+// The record closed, for a list that is emptied.
+// Ruled out: a run of failures that is kept; open-until set to 0.
+pub fn closed(b: Breaker) -> Breaker
+    ensures { λ r. ⌜ ((c : Config) (st : State) → b ≡ stored c st → r ≡ stored c (closing st)) ⌝ }
+{
+    let until = b.shared.open_until;
+    let idle = with_counts(b, no_counts());
+    transition(with_history(idle, 0, 0), CLOSED, until)
 }

@@ -4,4 +4,3 @@ pub mod OneToOne
 pub mod Steps
 pub mod Walks
 pub mod Runs
-pub mod Bounded

@@ -1,4 +1,4 @@
--- The steps of a turn, by the tests that the code makes. Assumes nothing.
+-- A budget as a number, and the retries by the tests that the code makes. Assumes nothing.
 use Prim.Native.Nat.{ℕ, _+_, _-_, _≤_, _<_, _^_, min}
 use native.Mathlib.Omega.{arith}
 use mathlib.Core.Path.{_≡_, refl, sym, ap, _∙_}
@@ -6,13 +6,11 @@ use mathlib.Core.Bool.{true, false}
 use borrow.Author.Tests.{eq-eqb, ne-eqb, le-leb, lt-leb, lt-ltb, le-ltb}
 use Rattle.wait.specs.declared.Wait.{Wait}
 use Rattle.wait.specs.declared.Observed.{Observed}
-use Rattle.wait.specs.declared.Act.the-variants.{Sleep, Yield}
-use Rattle.wait.specs.declared.Ending.the-variants.{Done, Deadline}
+use Rattle.wait.specs.declared.Act.the-variants.{Yield}
+use Rattle.wait.specs.declared.Ending.the-variants.{Deadline}
 use Rattle.wait.specs.declared.Move.the-variants.{Goes, Ends}
-use Rattle.wait.proofs.Limits.{times, bounded, →bounded}
 use Rattle.wait.specs.Budget.{budget}
-use Rattle.wait.specs.Turns.{turnInBounds, waitInBounds, Budget, unlimited, atMost, remaining, exceeds, usedUp, smaller, withZeros, sleeping, naps, retriesZero, retries}
-use Rattle.wait.specs.Keep.{holding, postponed, napOf, holdsOn, checks, grants}
+use Rattle.wait.specs.Turns.{Budget, unlimited, atMost, remaining, exceeds, usedUp, smaller, withZeros, naps, retriesZero, retries}
 
 -- ---- a budget as a number
 
@@ -74,58 +72,3 @@ module _ (w : Wait) (t : Observed) where
   pub retry-naps : (n : ℕ) → n ≡ budget (remaining w (t .clock)) → t .duration ≤ n → (t .duration ≡ 0 → ⊥) → naps (t .duration) (withZeros 0 w) t ≡ retries w t
   unfolding retries
   retry-naps n e l z = simp (not-over (remaining w (t .clock)) (t .duration) (omega (arith, e, l)), ne-eqb _ _ z)
-
--- ---- a held grant
-
-module _ (t : Observed) (w : Wait) where
-  pub grown : w .seen < t .«postponed_after» → holding (w .due + (t .«postponed_after» - w .seen)) (t .«postponed_after») w ≡ postponed t w
-  grown l = ap (λ (s : ℕ). holding (w .due + (t .«postponed_after» - w .seen)) s w) (omega (arith, l))
-
-  pub not-grown : t .«postponed_after» ≤ w .seen → holding (w .due) (w .seen) w ≡ postponed t w
-  not-grown l =
-      ap (λ (d : ℕ). holding d (w .seen) w) (omega (arith, l)) ∙ ap (λ (s : ℕ). holding (w .due + (t .«postponed_after» - w .seen)) s w) (omega (arith, l))
-
-  pub hold-over : (nap n : ℕ) → nap ≤ 2 ^ 64 - 1 → nap ≡ napOf t w → n ≡ budget (remaining w (t .clock)) → n < nap → Ends (Deadline 1) ≡ holdsOn t w
-  hold-over nap n f p e l = simp (← p, is-over (remaining w (t .clock)) nap f (omega (arith, e, l)))
-
-  pub hold-on : (nap n : ℕ) → nap ≡ napOf t w → n ≡ budget (remaining w (t .clock)) → nap ≤ n
-      → Goes (sleeping nap (t .«epoch_after») (t .pause)) w ≡ holdsOn t w
-  hold-on nap n p e l = simp (← p, not-over (remaining w (t .clock)) nap (omega (arith, e, l)))
-
-  pub nap-pause : (t .pause ≡ 0 → ⊥) → t .pause ≡ napOf t w
-  nap-pause n = simp (ne-eqb _ _ n)
-
-  pub nap-left : t .pause ≡ 0 → w .due - t .clock ≡ napOf t w
-  nap-left e = simp (eq-eqb _ _ e)
-
-module _ (w : Wait) (t : Observed) where
-  pub check-paused : (t .pause ≡ 0 → ⊥) → holdsOn t (postponed t w) ≡ checks w t
-  unfolding checks
-  check-paused n = simp (ne-eqb _ _ n)
-
-  pub check-done : t .pause ≡ 0 → postponed t w .due ≤ t .clock → Ends Done ≡ checks w t
-  unfolding checks
-  check-done e l = simp (eq-eqb _ _ e, le-leb _ _ l)
-
-  pub check-early : t .pause ≡ 0 → t .clock < postponed t w .due → holdsOn t (postponed t w) ≡ checks w t
-  unfolding checks
-  check-early e l = simp (eq-eqb _ _ e, lt-leb _ _ l)
-
-  pub grant-now : t .duration ≡ 0 → checks (holding (t .clock + t .duration) (t .«postponed_before») w) t ≡ grants w t
-  unfolding grants
-  grant-now e = simp (eq-eqb _ _ e)
-
-  pub grant-later : (t .duration ≡ 0 → ⊥) → Goes (Sleep (t .duration)) (holding (t .clock + t .duration) (t .«postponed_before») w) ≡ grants w t
-  unfolding grants
-  grant-later n = simp (ne-eqb _ _ n)
-
-  -- a fresh grant is within its bounds
-  pub grant-bounded : turnInBounds t ≡ true → waitInBounds w ≡ true → waitInBounds (holding (t .clock + t .duration) (t .«postponed_before») w) ≡ true
-  grant-bounded e b =
-      let ts = times t e in
-      →bounded _
-      (record {
-        deadline = bounded w b .deadline;
-        seen = ts .before;
-        due = omega (arith, ts .clock, ts .duration);
-      })

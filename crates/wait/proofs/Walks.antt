@@ -166,6 +166,9 @@ module _ (s : List ℕ) (limit at taken : ℕ) where
   pub a-turn : length (drop at s) % 8 ≡ 0 → at < length s → 8 ≤ length (drop at s)
   a-turn d l = omega (arith, d, l, length-drop at s)
 
+  pub turn-within : length (drop at s) % 8 ≡ 0 → at < length s → at + 8 ≤ length s
+  turn-within d l = omega (arith, a-turn d l, length-drop at s)
+
   pub next-turn : length (drop at s) % 8 ≡ 0 → at < length s → taken < limit
       → ahead (limit - taken) (drop at s) ≡ turnOf (drop at s) ∷ ahead (limit - (taken + 1)) (drop (at + 8) s)
   next-turn d l m =

@@ -3,5 +3,4 @@ pub mod Answers
 pub mod Turns
 pub mod Manner
 pub mod Run
-pub mod Keep
 pub mod Budget

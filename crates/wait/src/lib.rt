@@ -1,16 +1,21 @@
-// A wait for the inner limiter (wait.rs of the Rust): one turn on eight numbers, and a run of turns. Knows nothing of breakers.
+// A wait for the inner limiter (wait.rs of the Rust): what every manner of waiting shares. Knows nothing of breakers.
 // Times are nanoseconds. The host reads its clock, asks the limiter and sleeps; a turn says what it is to do.
+mod begin;
 mod bounds;
-mod calls;
-mod keep;
 mod manner;
 mod retries;
 
-pub use calls::drop_wait;
-pub use calls::run;
-pub use calls::start;
-pub use calls::turn;
+pub use begin::start;
 use error::Refusal;
+pub use manner::drop_as;
+pub use manner::ended_wait;
+pub use manner::in_order;
+pub use manner::ran_as;
+pub use manner::stop;
+pub use manner::turn_at;
+pub use retries::remaining;
+pub use retries::retry;
+pub use retries::sleeping;
 
 // The phases of a wait. Any other number is an ended wait too.
 pub const ENDED: u64 = 0;

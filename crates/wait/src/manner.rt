@@ -5,7 +5,7 @@ ghost use lib.ListN.{length, drop};
 ghost use Prim.Native.Nat.{_≤_, _+_};
 ghost use Rattle.error.specs.Choice.{bit};
 ghost use Rattle.wait.specs.Manner.{droppedAs, inOrder};
-ghost use Rattle.wait.specs.Run.{turnOf};
+ghost use Rattle.wait.specs.Run.{ranAs, turnOf};
 ghost use Rattle.wait.specs.Turns.{endedWait, turnInBounds, waitInBounds};
 ghost use Rattle.wait.specs.declared.Dropped.the-variants as Dropped·is;
 ghost use Rattle.wait.specs.declared.Ran.the-variants as Ran·is;
@@ -15,6 +15,8 @@ use crate::Dropping;
 use crate::ENDED;
 use crate::Observed;
 use crate::Ran;
+use crate::Running;
+use crate::TURN_WIDTH;
 use crate::TurnTest;
 use crate::Wait;
 use crate::bounds::turn_in_bounds;
@@ -22,7 +24,8 @@ use crate::bounds::wait_in_bounds;
 use error::Refusal;
 
 // A wait that has ended.
-pub(crate) fn ended_wait() -> Wait
+// Ruled out: one that looks; one that keeps its deadline.
+pub fn ended_wait() -> Wait
     ensures { λ r. ⌜ r ≡ endedWait ⌝ }
 {
     Wait {
@@ -36,7 +39,8 @@ pub(crate) fn ended_wait() -> Wait
 }
 
 // The tests of a turn, in document 01's order: 11, then 1. Whether its wait has ended and its reply is known is the manner's to say.
-pub(crate) fn in_order(ended: bool, known: bool, wait: Wait, turn: Observed) -> TurnTest
+// Ruled out: 1 before 11; a known reply that is refused.
+pub fn in_order(ended: bool, known: bool, wait: Wait, turn: Observed) -> TurnTest
     ensures { λ r. ⌜ r ≡ inOrder (ended || not known) (not (waitInBounds wait && turnInBounds turn)) Fails Passes ⌝ }
 {
     if ended {
@@ -54,11 +58,31 @@ pub(crate) fn in_order(ended: bool, known: bool, wait: Wait, turn: Observed) -> 
     TurnTest::Passes
 }
 
-// The eight numbers from `at` on.
-pub(crate) fn turn_at(turns: &[u64], at: usize) -> Observed
-    requires { ⌜ at + 8 ≤ length (now turns) ⌝ }
-    ensures { λ r. ⌜ r ≡ turnOf (drop at (now (turns .entry))) ⌝ }
+// What is handed on where the numbers of a turn are missing.
+fn no_turn() -> Observed {
+    Observed {
+        clock: 0,
+        epoch_before: 0,
+        epoch_after: 0,
+        kind: 0,
+        duration: 0,
+        pause: 0,
+        postponed_before: 0,
+        postponed_after: 0,
+    }
+}
+
+// The turn of the eight numbers from `at` on, where there are so many.
+// Ruled out: one that exchanges the epochs; one that reads from the next number on.
+pub fn turn_at(turns: &[u64], at: usize) -> Observed
+    ensures { λ r. ⌜ (at + 8 ≤ length (now (turns .entry)) → r ≡ turnOf (drop at (now (turns .entry)))) ⌝ }
 {
+    if turns.len() < TURN_WIDTH {
+        return no_turn();
+    }
+    if turns.len() - TURN_WIDTH < at {
+        return no_turn();
+    }
     Observed {
         clock: turns[at],
         epoch_before: turns[at + 1],
@@ -71,8 +95,21 @@ pub(crate) fn turn_at(turns: &[u64], at: usize) -> Observed
     }
 }
 
+// What a run came to.
+// Ruled out: a run that took no turn; the wait that it began with.
+pub fn ran_as(answer: Ran, taken: u64, wait: Wait) -> Running
+    ensures { λ r. ⌜ r ≡ ranAs answer taken wait ⌝ }
+{
+    Running {
+        answer,
+        taken,
+        wait,
+    }
+}
+
 // What a run is told when no turn is left or its limit is reached.
-pub(crate) fn stop(ended: bool, wait: Wait) -> Ran
+// Ruled out: 1 for an ended wait; 10 for one past its bounds.
+pub fn stop(ended: bool, wait: Wait) -> Ran
     ensures { λ r. ⌜ r ≡ inOrder ended (not (waitInBounds wait)) Ran·is.Refused Ran·is.Unfinished ⌝ }
 {
     if ended {
@@ -85,7 +122,8 @@ pub(crate) fn stop(ended: bool, wait: Wait) -> Ran
 }
 
 // Ends a wait: one that holds a unit is to give it back.
-pub(crate) fn drop_as(ended: bool, holds: bool, wait: Wait) -> Dropping
+// Ruled out: a held unit that is kept; one given back that was not held.
+pub fn drop_as(ended: bool, holds: bool, wait: Wait) -> Dropping
     ensures { λ r. ⌜
         r
         ≡ inOrder ended (not (waitInBounds wait)) (λ x. droppedAs (Dropped·is.Refused x) wait) (droppedAs (Dropped·is.GiveBack (bit holds)) endedWait)

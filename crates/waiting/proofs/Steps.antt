@@ -47,13 +47,13 @@ use Rattle.wait.specs.Answers.{actValues, startedTold, waitValues, droppedTold}
 use Rattle.wait.specs.Turns.{started}
 use Rattle.wait.specs.Manner.{turned, dropped}
 use Rattle.wait.specs.Run.{runs}
-use Rattle.wait.specs.Keep.{keep}
+use Rattle.keep.specs.Keep.{keep}
 use Rattle.wait.proofs.OneToOne.{started-one}
 use Rattle.waiting.specs.declared.Pending.{Pending}
 use Rattle.waiting.specs.declared.Completed.the-variants as Completed·is
 use Rattle.waiting.specs.Answers.{completedTold}
 use Rattle.waiting.specs.Rules.{afterAbort, judged, completes}
-use Rattle.waiting.specs.Calls.{PendingAfter, pendingAfter, pending, beside, begins, startedTo, starting, turnedTo, turning, PendingRun, pendingRun, ranTo, running, droppedTo, leaving}
+use Rattle.waiting.specs.Calls.{PendingAfter, pendingAfter, pending, beside, begins, startedTo, startPending, turnedTo, turnPending, PendingRun, pendingRun, ranTo, runPending, droppedTo, dropPending}
 
 -- ---- completion, by the verdict
 
@@ -95,17 +95,17 @@ plainly (granted t st) = refl
 plainly (shed ms) = refl
 
 module _ (reading clock : ℕ) (limited : Bool) (timeout : ℕ) (b : Breaker) (s : List ℕ) (p : Pending) where
-  pub start-tested : (r : Refusal) → Tested·is.Refused r ≡ guarded Tested·is.Refused Tested·is.Sound b s → pendingAfter (refused r) b s p ≡ starting reading clock limited timeout b s p
-  unfolding starting
+  pub start-tested : (r : Refusal) → Tested·is.Refused r ≡ guarded Tested·is.Refused Tested·is.Sound b s → pendingAfter (refused r) b s p ≡ startPending reading clock limited timeout b s p
+  unfolding startPending
   start-tested r e = guarded-refused (λ r. pendingAfter (refused r) b s p) _ b s r e
 
   module _ (ok : sound b s ≡ true) where
     -- what the wait's own start came to
-    begun : (x : Started) → startedTold x ≡ startedTold (started clock limited timeout) → startedTo x reading b s p ≡ starting reading clock limited timeout b s p
-    unfolding starting
+    begun : (x : Started) → startedTold x ≡ startedTold (started clock limited timeout) → startedTo x reading b s p ≡ startPending reading clock limited timeout b s p
+    unfolding startPending
     begun x e = ap (λ (y : Started). startedTo y reading b s p) (started-one x (started clock limited timeout) e) ∙ guarded-done (λ r. pendingAfter (refused r) b s p) _ b s ok
 
-    pub start-refused : (r : Refusal) → refused r ≡ startedTold (started clock limited timeout) → pendingAfter (refused r) b s p ≡ starting reading clock limited timeout b s p
+    pub start-refused : (r : Refusal) → refused r ≡ startedTold (started clock limited timeout) → pendingAfter (refused r) b s p ≡ startPending reading clock limited timeout b s p
     start-refused r e = begun (Started·is.Refused r) e
 
     -- a wait that was made, and what the admission came to
@@ -114,12 +114,12 @@ module _ (reading clock : ℕ) (limited : Bool) (timeout : ℕ) (b : Breaker) (s
       asked = admit (settings (b .config)) reading (state b s)
 
       -- the admission is what the entry stands for
-      admitted-as : (x : Admitted) → viaTrait false asked ≡ x → begins w x b s p ≡ starting reading clock limited timeout b s p
+      admitted-as : (x : Admitted) → viaTrait false asked ≡ x → begins w x b s p ≡ startPending reading clock limited timeout b s p
       unfolding asked
       admitted-as x q = ap (λ (y : Admitted). begins w y b s p) (sym q ∙ plainly asked) ∙ begun (Started·is.Made w) made
 
       pub start-granted : (t : Ticket) (next : Breaker) → Granted t next ≡ entry (b .config) (admitAs false (settings (b .config)) reading (state b s))
-          → pendingAfter nothing next s (pending w t) ≡ starting reading clock limited timeout b s p
+          → pendingAfter nothing next s (pending w t) ≡ startPending reading clock limited timeout b s p
       unfolding asked
       start-granted t next e =
           entered-granted (b .config) t next (viaTrait false asked) e
@@ -127,92 +127,92 @@ module _ (reading clock : ℕ) (limited : Bool) (timeout : ℕ) (b : Breaker) (s
           ∙ admitted-as (granted t st) q)
 
       pub start-shed : (d : Delay) → Shed d ≡ entry (b .config) (admitAs false (settings (b .config)) reading (state b s))
-          → pendingAfter (shedTold d) b s p ≡ starting reading clock limited timeout b s p
+          → pendingAfter (shedTold d) b s p ≡ startPending reading clock limited timeout b s p
       unfolding asked
       start-shed d e = entered-shed (b .config) d (viaTrait false asked) e (λ ms q r. ap (λ (x : Delay). pendingAfter (shedTold x) b s p) r ∙ admitted-as (shed ms) q)
 
 -- ---- a turn, a run, a drop
 
 module _ (t : Observed) (reading capacity : ℕ) (b : Breaker) (s : List ℕ) (p : Pending) where
-  pub turn-tested : (r : Refusal) → Tested·is.Refused r ≡ guarded Tested·is.Refused Tested·is.Sound b s → pendingAfter (refused r) b s p ≡ turning t reading capacity b s p
-  unfolding turning
+  pub turn-tested : (r : Refusal) → Tested·is.Refused r ≡ guarded Tested·is.Refused Tested·is.Sound b s → pendingAfter (refused r) b s p ≡ turnPending t reading capacity b s p
+  unfolding turnPending
   turn-tested r e = guarded-refused (λ r. pendingAfter (refused r) b s p) _ b s r e
 
-  pub turn-is : sound b s ≡ true → (x : Turning) → x ≡ turned keep (p .wait) t → turnedTo (x .answer) (x .wait) reading capacity b s p ≡ turning t reading capacity b s p
-  unfolding turning
+  pub turn-is : sound b s ≡ true → (x : Turning) → x ≡ turned keep (p .wait) t → turnedTo (x .answer) (x .wait) reading capacity b s p ≡ turnPending t reading capacity b s p
+  unfolding turnPending
   turn-is ok x e =
       ap (λ (y : Turning). turnedTo (y .answer) (y .wait) reading capacity b s p) e ∙ guarded-done (λ r. pendingAfter (refused r) b s p) _ b s ok
 
   -- what the wait's own turn x answered, with the wait q that is left
   module _ (ok : sound b s ≡ true) (x : Turning) (is : x ≡ turned keep (p .wait) t) (q : Pending) (left : q ≡ pending (x .wait) (p .ticket)) where
-    pub turn-next : (act : Act) → x .answer ≡ Turned·is.Next act → pendingAfter (tell 0 (actValues act)) b s q ≡ turning t reading capacity b s p
+    pub turn-next : (act : Act) → x .answer ≡ Turned·is.Next act → pendingAfter (tell 0 (actValues act)) b s q ≡ turnPending t reading capacity b s p
     turn-next act e =
         ap (pendingAfter (tell 0 (actValues act)) b s) left ∙ ap (λ (a : Turned). turnedTo a (x .wait) reading capacity b s p) (sym e) ∙ turn-is ok x is
 
-    pub turn-refused : (r : Refusal) → x .answer ≡ Turned·is.Refused r → pendingAfter (refused r) b s q ≡ turning t reading capacity b s p
+    pub turn-refused : (r : Refusal) → x .answer ≡ Turned·is.Refused r → pendingAfter (refused r) b s q ≡ turnPending t reading capacity b s p
     turn-refused r e = ap (pendingAfter (refused r) b s) left ∙ ap (λ (a : Turned). turnedTo a (x .wait) reading capacity b s p) (sym e) ∙ turn-is ok x is
 
     pub turn-ends : (e : Ending) (told : Told) (next : Breaker) → x .answer ≡ Turned·is.Ends e → Leaves e reading capacity (p .ticket) b told next
-        → pendingAfter told next s q ≡ turning t reading capacity b s p
+        → pendingAfter told next s q ≡ turnPending t reading capacity b s p
     turn-ends e told next h d =
         ap (pendingAfter told next s) left ∙ ap (beside (pending (x .wait) (p .ticket))) (completed e reading capacity (p .ticket) b s told next ok d) ∙ ap (λ (y : Turned). turnedTo y (x .wait) reading capacity b s p) (sym h) ∙ turn-is ok x is
 
 module _ (turns : List ℕ) (limit reading capacity : ℕ) (b : Breaker) (s : List ℕ) (p : Pending) where
-  pub run-turns : (length turns % 8 ≡ 0 → ⊥) → pendingRun (pendingAfter (refused Storage) b s p) 0 ≡ running turns limit reading capacity b s p
-  unfolding running
+  pub run-turns : (length turns % 8 ≡ 0 → ⊥) → pendingRun (pendingAfter (refused Storage) b s p) 0 ≡ runPending turns limit reading capacity b s p
+  unfolding runPending
   run-turns n = simp (ne-eqb _ _ n)
 
   whole : length turns % 8 ≡ 0 → (x : PendingRun)
       → x ≡ guarded (λ r. pendingRun (pendingAfter (refused r) b s p) 0) (pendingRun (ranTo (runs keep (p .wait) turns limit .answer) (runs keep (p .wait) turns limit .wait) reading capacity b s p) (runs keep (p .wait) turns limit .taken)) b s
-      → x ≡ running turns limit reading capacity b s p
-  unfolding running
+      → x ≡ runPending turns limit reading capacity b s p
+  unfolding runPending
   whole m x e = rw (eq-eqb _ _ m) e
 
   pub run-tested : length turns % 8 ≡ 0 → (r : Refusal) → Tested·is.Refused r ≡ guarded Tested·is.Refused Tested·is.Sound b s
-      → pendingRun (pendingAfter (refused r) b s p) 0 ≡ running turns limit reading capacity b s p
+      → pendingRun (pendingAfter (refused r) b s p) 0 ≡ runPending turns limit reading capacity b s p
   run-tested m r e = whole m _ (guarded-refused (λ r. pendingRun (pendingAfter (refused r) b s p) 0) _ b s r e)
 
   pub run-is : length turns % 8 ≡ 0 → sound b s ≡ true → (x : Running) → x ≡ runs keep (p .wait) turns limit
-      → pendingRun (ranTo (x .answer) (x .wait) reading capacity b s p) (x .taken) ≡ running turns limit reading capacity b s p
+      → pendingRun (ranTo (x .answer) (x .wait) reading capacity b s p) (x .taken) ≡ runPending turns limit reading capacity b s p
   run-is m ok x e =
       whole m _ (ap (λ (y : Running). pendingRun (ranTo (y .answer) (y .wait) reading capacity b s p) (y .taken)) e ∙ guarded-done (λ r. pendingRun (pendingAfter (refused r) b s p) 0) _ b s ok)
 
   module _ (m : length turns % 8 ≡ 0) (ok : sound b s ≡ true) (x : Running) (is : x ≡ runs keep (p .wait) turns limit) (q : Pending) (left : q ≡ pending (x .wait) (p .ticket)) where
     -- the run's answer a, with the same turns taken
-    ran-is : (a : Ran) → x .answer ≡ a → pendingRun (ranTo a (x .wait) reading capacity b s p) (x .taken) ≡ running turns limit reading capacity b s p
+    ran-is : (a : Ran) → x .answer ≡ a → pendingRun (ranTo a (x .wait) reading capacity b s p) (x .taken) ≡ runPending turns limit reading capacity b s p
     ran-is a e = ap (λ (y : Ran). pendingRun (ranTo y (x .wait) reading capacity b s p) (x .taken)) (sym e) ∙ run-is m ok x is
 
-    pub run-unfinished : x .answer ≡ Ran·is.Unfinished → pendingRun (pendingAfter (tell 10 []) b s q) (x .taken) ≡ running turns limit reading capacity b s p
+    pub run-unfinished : x .answer ≡ Ran·is.Unfinished → pendingRun (pendingAfter (tell 10 []) b s q) (x .taken) ≡ runPending turns limit reading capacity b s p
     run-unfinished e = ap (λ (y : Pending). pendingRun (pendingAfter (tell 10 []) b s y) (x .taken)) left ∙ ran-is Ran·is.Unfinished e
 
-    pub run-refused : (r : Refusal) → x .answer ≡ Ran·is.Refused r → pendingRun (pendingAfter (refused r) b s q) (x .taken) ≡ running turns limit reading capacity b s p
+    pub run-refused : (r : Refusal) → x .answer ≡ Ran·is.Refused r → pendingRun (pendingAfter (refused r) b s q) (x .taken) ≡ runPending turns limit reading capacity b s p
     run-refused r e = ap (λ (y : Pending). pendingRun (pendingAfter (refused r) b s y) (x .taken)) left ∙ ran-is (Ran·is.Refused r) e
 
     pub run-ends : (e : Ending) (told : Told) (next : Breaker) → x .answer ≡ Ran·is.Ends e → Leaves e reading capacity (p .ticket) b told next
-        → pendingRun (pendingAfter told next s q) (x .taken) ≡ running turns limit reading capacity b s p
+        → pendingRun (pendingAfter told next s q) (x .taken) ≡ runPending turns limit reading capacity b s p
     run-ends e told next h d =
         ap (λ (y : Pending). pendingRun (pendingAfter told next s y) (x .taken)) left
         ∙ ap (λ (y : After). pendingRun (beside (pending (x .wait) (p .ticket)) y) (x .taken)) (completed e reading capacity (p .ticket) b s told next ok d)
         ∙ ran-is (Ran·is.Ends e) h
 
 module _ (b : Breaker) (s : List ℕ) (p : Pending) where
-  pub drop-tested : (r : Refusal) → Tested·is.Refused r ≡ guarded Tested·is.Refused Tested·is.Sound b s → pendingAfter (refused r) b s p ≡ leaving b s p
-  unfolding leaving
+  pub drop-tested : (r : Refusal) → Tested·is.Refused r ≡ guarded Tested·is.Refused Tested·is.Sound b s → pendingAfter (refused r) b s p ≡ dropPending b s p
+  unfolding dropPending
   drop-tested r e = guarded-refused (λ r. pendingAfter (refused r) b s p) _ b s r e
 
-  pub drop-is : sound b s ≡ true → (x : Dropping) → x ≡ dropped keep (p .wait) → droppedTo (x .answer) (x .wait) b s p ≡ leaving b s p
-  unfolding leaving
+  pub drop-is : sound b s ≡ true → (x : Dropping) → x ≡ dropped keep (p .wait) → droppedTo (x .answer) (x .wait) b s p ≡ dropPending b s p
+  unfolding dropPending
   drop-is ok x e = ap (λ (y : Dropping). droppedTo (y .answer) (y .wait) b s p) e ∙ guarded-done (λ r. pendingAfter (refused r) b s p) _ b s ok
 
   module _ (ok : sound b s ≡ true) (x : Dropping) (is : x ≡ dropped keep (p .wait)) (q : Pending) (left : q ≡ pending (x .wait) (p .ticket)) where
-    pub drop-refused : (r : Refusal) → x .answer ≡ Dropped·is.Refused r → pendingAfter (refused r) b s q ≡ leaving b s p
+    pub drop-refused : (r : Refusal) → x .answer ≡ Dropped·is.Refused r → pendingAfter (refused r) b s q ≡ dropPending b s p
     drop-refused r e =
         ap (pendingAfter (refused r) b s) left
         ∙ ap (λ (y : Dropped). droppedTo y (x .wait) b s p) (sym e)
         ∙ drop-is ok x is
 
     pub drop-gives : (n : ℕ) (next : Breaker) → x .answer ≡ Dropped·is.GiveBack n → ((c : Config) (st : State) → b ≡ stored c st → next ≡ stored c (aborted (p .ticket) false st))
-        → pendingAfter (droppedTold (Dropped·is.GiveBack n)) next s q ≡ leaving b s p
+        → pendingAfter (droppedTold (Dropped·is.GiveBack n)) next s q ≡ dropPending b s p
     drop-gives n next e h =
         let told = droppedTold (Dropped·is.GiveBack n) in
         ap (pendingAfter told next s) left

@@ -26,7 +26,7 @@ use Rattle.wait.specs.Answers.{droppedTold}
 use Rattle.wait.specs.Turns.{started}
 use Rattle.wait.specs.Manner.{turned, dropped}
 use Rattle.wait.specs.Run.{wholeTurns, runs}
-use Rattle.wait.specs.Keep.{keep}
+use Rattle.keep.specs.Keep.{keep}
 use Rattle.waiting.specs.declared.Pending.{Pending}
 use Rattle.waiting.specs.declared.Begun.the-variants as Begun·is
 use Rattle.waiting.specs.declared.Awaited.the-variants as Awaited·is
@@ -62,8 +62,8 @@ abbrev pub startedTo : Started → ℕ → Breaker → List ℕ → Pending → 
 startedTo (Started·is.Made w) reading b s p = begins w (admit (settings (b .config)) reading (state b s)) b s p
 startedTo (Started·is.Refused r) reading b s p = pendingAfter (refused r) b s p
 
-unfoldable pub starting : ℕ → ℕ → Bool → ℕ → Breaker → List ℕ → Pending → PendingAfter
-starting reading clock limited timeout b s p = guarded (λ r. pendingAfter (refused r) b s p) (startedTo (started clock limited timeout) reading b s p) b s
+unfoldable pub startPending : ℕ → ℕ → Bool → ℕ → Breaker → List ℕ → Pending → PendingAfter
+startPending reading clock limited timeout b s p = guarded (λ r. pendingAfter (refused r) b s p) (startedTo (started clock limited timeout) reading b s p) b s
 
 -- ---- a turn: what its wait makes of it, and what the wait's end does to the breaker
 
@@ -77,8 +77,8 @@ turnedTo (Turned·is.Next act) w reading capacity b s p = pendingAfter (awaitedT
 turnedTo (Turned·is.Ends e) w reading capacity b s p = finishes e w reading capacity b s p
 turnedTo (Turned·is.Refused r) w reading capacity b s p = pendingAfter (refused r) b s (pending w (p .ticket))
 
-unfoldable pub turning : Observed → ℕ → ℕ → Breaker → List ℕ → Pending → PendingAfter
-turning t reading capacity b s p =
+unfoldable pub turnPending : Observed → ℕ → ℕ → Breaker → List ℕ → Pending → PendingAfter
+turnPending t reading capacity b s p =
     let x = turned keep (p .wait) t in
     guarded (λ r. pendingAfter (refused r) b s p) (turnedTo (x .answer) (x .wait) reading capacity b s p) b s
 
@@ -96,8 +96,8 @@ ranTo (Ran·is.Ends e) w reading capacity b s p = finishes e w reading capacity 
 ranTo Ran·is.Unfinished w reading capacity b s p = pendingAfter (courseTold Course·is.Unfinished) b s (pending w (p .ticket))
 ranTo (Ran·is.Refused r) w reading capacity b s p = pendingAfter (refused r) b s (pending w (p .ticket))
 
-unfoldable pub running : List ℕ → ℕ → ℕ → ℕ → Breaker → List ℕ → Pending → PendingRun
-running turns limit reading capacity b s p =
+unfoldable pub runPending : List ℕ → ℕ → ℕ → ℕ → Breaker → List ℕ → Pending → PendingRun
+runPending turns limit reading capacity b s p =
     let x = runs keep (p .wait) turns limit in
     if wholeTurns turns then
     guarded (λ r. pendingRun (pendingAfter (refused r) b s p) 0) (pendingRun (ranTo (x .answer) (x .wait) reading capacity b s p) (x .taken)) b s
@@ -110,7 +110,7 @@ droppedTo (Dropped·is.GiveBack n) w b s p =
     beside (pending w (p .ticket)) (kept (b .config) (afterAbort (droppedTold (Dropped·is.GiveBack n)) (p .ticket) (state b s)))
 droppedTo (Dropped·is.Refused r) w b s p = pendingAfter (refused r) b s (pending w (p .ticket))
 
-unfoldable pub leaving : Breaker → List ℕ → Pending → PendingAfter
-leaving b s p =
+unfoldable pub dropPending : Breaker → List ℕ → Pending → PendingAfter
+dropPending b s p =
     let x = dropped keep (p .wait) in
     guarded (λ r. pendingAfter (refused r) b s p) (droppedTo (x .answer) (x .wait) b s p) b s

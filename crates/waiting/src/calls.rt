@@ -5,7 +5,7 @@ ghost use Prim.Native.Nat.{ℕ};
 ghost use Rattle.wait.specs.Answers.{droppedTold};
 ghost use Rattle.waiting.specs.Answers.{begunTold, awaitedTold, courseTold};
 ghost use Rattle.waiting.specs.Calls as Calls;
-ghost use Rattle.waiting.specs.Calls.{pendingAfter, pendingRun, starting, turning, running, leaving};
+ghost use Rattle.waiting.specs.Calls.{pendingAfter, pendingRun, startPending, turnPending, runPending, dropPending};
 use crate::Awaited;
 use crate::Awaiting;
 use crate::Beginning;
@@ -52,7 +52,7 @@ pub fn start(
 ) -> Beginning
     ensures { λ r. ⌜
         pendingAfter (begunTold (r .answer)) (r .breaker) (now (list .exit)) (r .pending)
-        ≡ starting «now_ms» clock limited timeout breaker (now (list .entry)) pending
+        ≡ startPending «now_ms» clock limited timeout breaker (now (list .entry)) pending
         ⌝ }
 {
     match test(breaker, list) {
@@ -108,13 +108,13 @@ pub fn turn(
 ) -> Awaiting
     ensures { λ r. ⌜
         pendingAfter (awaitedTold (r .answer)) (r .breaker) (now (list .exit)) (r .pending)
-        ≡ turning turn «now_ms» capacity breaker (now (list .entry)) pending
+        ≡ turnPending turn «now_ms» capacity breaker (now (list .entry)) pending
         ⌝ }
 {
     match test(breaker, list) {
         Tested::Refused(r) => awaiting(Awaited::Refused(r), breaker, pending),
         Tested::Sound => {
-            let turned = wait::turn(pending.wait, turn);
+            let turned = keep::turn(pending.wait, turn);
             let answer = turned.answer;
             let next = with_wait(turned.wait, pending);
             match answer {
@@ -158,7 +158,7 @@ pub fn run(
 ) -> Proceeding
     ensures { λ r. ⌜
         pendingRun (pendingAfter (courseTold (r .answer .course)) (r .breaker) (now (list .exit)) (r .pending)) (r .answer .taken)
-        ≡ running (now (turns .entry)) limit «now_ms» capacity breaker (now (list .entry)) pending
+        ≡ runPending (now (turns .entry)) limit «now_ms» capacity breaker (now (list .entry)) pending
         ⌝ }
 {
     if turns.len() % TURN_WIDTH != 0 {
@@ -167,7 +167,7 @@ pub fn run(
     match test(breaker, list) {
         Tested::Refused(r) => proceeding(Course::Refused(r), 0, breaker, pending),
         Tested::Sound => {
-            let ran = wait::run(pending.wait, turns, limit);
+            let ran = keep::run(pending.wait, turns, limit);
             let answer = ran.answer;
             let taken = ran.taken;
             let next = with_wait(ran.wait, pending);
@@ -188,7 +188,7 @@ pub fn run(
 // Ends a wait before it has ended: the ticket is aborted, and a held grant is to be given back.
 // Ruled out: a drop that keeps the probe; one that keeps a held grant.
 pub fn drop_pending(breaker: Breaker, list: &mut [u64], pending: Pending) -> Leaving
-    ensures { λ r. ⌜ pendingAfter (droppedTold (r .answer)) (r .breaker) (now (list .exit)) (r .pending) ≡ leaving breaker (now (list .entry)) pending ⌝ }
+    ensures { λ r. ⌜ pendingAfter (droppedTold (r .answer)) (r .breaker) (now (list .exit)) (r .pending) ≡ dropPending breaker (now (list .entry)) pending ⌝ }
 {
     match test(breaker, list) {
         Tested::Refused(r) => Leaving {
@@ -197,7 +197,7 @@ pub fn drop_pending(breaker: Breaker, list: &mut [u64], pending: Pending) -> Lea
             pending,
         },
         Tested::Sound => {
-            let dropped = wait::drop_wait(pending.wait);
+            let dropped = keep::drop_wait(pending.wait);
             let answer = dropped.answer;
             let next = with_wait(dropped.wait, pending);
             match answer {

@@ -12,7 +12,7 @@ use Rattle.history.specs.declared.Items.{Items}
 use Rattle.breaker.specs.Record.{state, sound, itemsOf}
 use Rattle.breaker.specs.Calls as Calls
 use Rattle.breaker.proofs.Guard.{tested-sound, asked-refused, asked-done}
-use Rattle.steps.proofs.Deciding.{has-length, failures-counted}
+use Rattle.outcomes.proofs.Deciding.{has-length, failures-counted}
 use Rattle.steps.proofs.Holding.{holds}
 use Rattle.circuit.proofs.Figures.{board-nothing, board-outcomes, board-times}
 use Rattle.circuit.proofs.calls.board.Statement.{statement}

@@ -4,7 +4,7 @@ use mathlib.Core.Bool.{true}
 use borrow.Author.Needs.{needs}
 use Rattle.breaker.specs.Record.{state, sound}
 use Rattle.breaker.specs.Rules as Rules
-use Rattle.steps.proofs.Settling.{kept-done}
+use Rattle.steps.proofs.Holding.{kept-done}
 use Rattle.breaker.proofs.Guard.{tested-sound, sound-refused, sound-done}
 use Rattle.steps.proofs.Holding.{holds}
 use Rattle.circuit.proofs.calls.reset.Statement.{statement}

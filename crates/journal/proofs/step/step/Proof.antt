@@ -8,7 +8,7 @@ use Rattle.breaker.specs.Record.{state}
 use Rattle.breaker.specs.Rules.{closing}
 use Rattle.steps.proofs.Holding.{holds}
 use Rattle.steps.proofs.Aborting.{given-back}
-use Rattle.steps.proofs.Settling.{kept-done}
+use Rattle.steps.proofs.Holding.{kept-done}
 use Rattle.admission.proofs.Admitting.{admitted-shed, admitted-granted}
 use Rattle.breaker.specs.Answers.{admissionTold, finishedTold}
 use Rattle.lines.specs.declared.Call.the-variants.{Admit, Success, Failure, Abort, Reset}

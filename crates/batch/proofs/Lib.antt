@@ -1,0 +1,2 @@
+-- Laws, by the steps of the code that use them.
+pub mod Sequences
