@@ -30,18 +30,18 @@ pub(crate) fn narrow(n: u64) -> u32 {
 
 // ---- what a line says
 
-fn ticket(a: &Asked) -> Ticket {
+fn ticket(a: Asked) -> Ticket {
     Ticket {
         generation: a[at::GENERATION],
         probe: a[at::PROBE] != 0,
     }
 }
 
-fn reply(a: &Asked) -> Decision {
+fn reply(a: Asked) -> Decision {
     crossing::decision_by((a[at::REPLY] % 256) as u8, a[at::REPLY_MS])
 }
 
-fn reservation(a: &Asked) -> Reservation {
+fn reservation(a: Asked) -> Reservation {
     crossing::reservation_by((a[at::REPLY] % 256) as u8, a[at::REPLY_MS])
 }
 
@@ -53,7 +53,7 @@ fn ratio(bits: u64) -> f64 {
     f64::from_bits(bits)
 }
 
-fn setting(a: &Asked) -> Setting {
+fn setting(a: Asked) -> Setting {
     Setting {
         kind: (a[at::POLICY] % 256) as u8,
         limit: narrow(a[at::LIMIT]),
@@ -144,7 +144,7 @@ fn counted(r: Counting) -> Called {
 
 // ---- the calls
 
-pub(crate) fn build(b: Breaker, list: &mut [u64], a: &Asked) -> Called {
+pub(crate) fn build(b: Breaker, list: &mut [u64], a: Asked) -> Called {
     finished(lent::build(b, list, crossing::builder_by(setting(a))))
 }
 
@@ -171,7 +171,7 @@ fn charge(b: Breaker, cost: u32) -> Called {
 }
 
 // The calls with a ticket or an outcome.
-fn call_plain(b: Breaker, list: &mut [u64], a: &Asked) -> Called {
+fn call_plain(b: Breaker, list: &mut [u64], a: Asked) -> Called {
     let op = a[at::OP];
     let now_ms = a[at::NOW_MS];
     let t = ticket(a);
@@ -190,7 +190,7 @@ fn call_plain(b: Breaker, list: &mut [u64], a: &Asked) -> Called {
 }
 
 // The calls with what the inner limiter replied, or with a cost.
-fn call_inner(b: Breaker, list: &mut [u64], a: &Asked) -> Called {
+fn call_inner(b: Breaker, list: &mut [u64], a: Asked) -> Called {
     let op = a[at::OP];
     let now_ms = a[at::NOW_MS];
     let amount = narrow(a[at::AMOUNT]);
@@ -205,7 +205,7 @@ fn call_inner(b: Breaker, list: &mut [u64], a: &Asked) -> Called {
     }
 }
 
-pub(crate) fn call(b: Breaker, list: &mut [u64], a: &Asked) -> Called {
+pub(crate) fn call(b: Breaker, list: &mut [u64], a: Asked) -> Called {
     let op = a[at::OP];
     match op {
         at::TRY_ADMIT

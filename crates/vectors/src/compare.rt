@@ -43,10 +43,10 @@ pub(crate) fn no_numbers() -> Numbers {
 
 pub(crate) fn numbers_of(m: Made) -> Numbers {
     let t = m.told;
-    let c = m.breaker.config;
-    let h = m.breaker.shared;
-    let w = m.pending.wait;
-    let k = m.pending.ticket;
+    let c = m.ours.breaker.config;
+    let h = m.ours.breaker.shared;
+    let w = m.ours.pending.wait;
+    let k = m.ours.pending.ticket;
     [
         t.number as u64,
         t.v1,

@@ -23,8 +23,7 @@ pub(crate) struct Ours {
 // What a call told, and the record and the wait after it.
 pub(crate) struct Made {
     pub(crate) told: Waited,
-    pub(crate) breaker: Breaker,
-    pub(crate) pending: Pending,
+    pub(crate) ours: Ours,
 }
 
 // What is asked: the first numbers of the line at their own columns, and behind them what it does not say. A refusal replaces one of them.
@@ -72,41 +71,34 @@ pub(crate) fn no_pending() -> Pending {
     }
 }
 
-fn wait_of(p: Pending) -> [u64; 4] {
-    let w = p.wait;
-    [w.phase, w.deadline, w.seen, w.due]
-}
-
 // What a line asks; a run has its one turn.
-pub(crate) fn asked(b: Breaker, p: Pending, n: &Line) -> Asked {
+pub(crate) fn asked(ours: Ours, n: &Line) -> Asked {
+    let w = ours.pending.wait;
     let mut a = [0u64; 19];
-    let w = wait_of(p);
     push(&mut a, 0, n, 0, FROM_LINE);
-    push(&mut a, PHASE, &w, 0, 4);
-    a[STATE] = b.shared.state as u64;
+    a[PHASE] = w.phase;
+    a[DEADLINE] = w.deadline;
+    a[SEEN] = w.seen;
+    a[DUE] = w.due;
+    a[STATE] = ours.breaker.shared.state as u64;
     a[ROOM] = 4096;
     a[NUMBERS] = 8;
     a[MOST] = 1;
     a
 }
 
-// The record that is handed in.
-pub(crate) fn record(mut b: Breaker, a: &Asked) -> Breaker {
+// The record and the wait that are handed in.
+pub(crate) fn handed(mut ours: Ours, a: Asked) -> Ours {
     let state = (a[STATE] % 256) as u8;
-    b.shared.state = state;
-    b
+    ours.breaker.shared.state = state;
+    ours.pending.wait.phase = a[PHASE];
+    ours.pending.wait.deadline = a[DEADLINE];
+    ours.pending.wait.seen = a[SEEN];
+    ours.pending.wait.due = a[DUE];
+    ours
 }
 
-// The wait that is handed in.
-pub(crate) fn pending(mut p: Pending, a: &Asked) -> Pending {
-    p.wait.phase = a[PHASE];
-    p.wait.deadline = a[DEADLINE];
-    p.wait.seen = a[SEEN];
-    p.wait.due = a[DUE];
-    p
-}
-
-fn observed(a: &Asked) -> Observed {
+fn observed(a: Asked) -> Observed {
     Observed {
         clock: a[at::TURN_CLOCK],
         epoch_before: a[at::TURN_EPOCH_BEFORE],
@@ -119,7 +111,7 @@ fn observed(a: &Asked) -> Observed {
     }
 }
 
-fn start(list: &mut [u64], b: Breaker, p: Pending, a: &Asked) -> Made {
+fn start(list: &mut [u64], b: Breaker, p: Pending, a: Asked) -> Made {
     let r = lent::wait_start(
         b,
         list,
@@ -134,12 +126,11 @@ fn start(list: &mut [u64], b: Breaker, p: Pending, a: &Asked) -> Made {
     let pending = r.pending;
     Made {
         told: crossing::tell_begun(answer),
-        breaker,
-        pending,
+        ours: Ours { breaker, pending },
     }
 }
 
-fn turn(list: &mut [u64], b: Breaker, p: Pending, a: &Asked) -> Made {
+fn turn(list: &mut [u64], b: Breaker, p: Pending, a: Asked) -> Made {
     let r = lent::wait_turn(
         b,
         list,
@@ -153,8 +144,7 @@ fn turn(list: &mut [u64], b: Breaker, p: Pending, a: &Asked) -> Made {
     let pending = r.pending;
     Made {
         told: crossing::tell_awaited(answer),
-        breaker,
-        pending,
+        ours: Ours { breaker, pending },
     }
 }
 
@@ -165,12 +155,11 @@ fn leave(list: &mut [u64], b: Breaker, p: Pending) -> Made {
     let pending = r.pending;
     Made {
         told: crossing::tell_dropped(answer),
-        breaker,
-        pending,
+        ours: Ours { breaker, pending },
     }
 }
 
-fn run_of(list: &mut [u64], b: Breaker, p: Pending, turns: &[u64], a: &Asked) -> Made {
+fn run_of(list: &mut [u64], b: Breaker, p: Pending, turns: &[u64], a: Asked) -> Made {
     let r = lent::wait_run(
         b,
         list,
@@ -186,8 +175,7 @@ fn run_of(list: &mut [u64], b: Breaker, p: Pending, turns: &[u64], a: &Asked) ->
     let pending = r.pending;
     Made {
         told: crossing::tell_course(course, answer.taken),
-        breaker,
-        pending,
+        ours: Ours { breaker, pending },
     }
 }
 
@@ -201,9 +189,9 @@ fn at_most(n: u64, most: usize) -> usize
 }
 
 // A run of the turn, and of a second one of zeros, which is refused.
-fn run(list: &mut [u64], b: Breaker, p: Pending, a: &Asked) -> Made {
+fn run(list: &mut [u64], b: Breaker, p: Pending, a: Asked) -> Made {
     let mut turns = [0u64; 16];
-    push(&mut turns, 0, a, at::TURN_CLOCK, 8);
+    push(&mut turns, 0, &a, at::TURN_CLOCK, 8);
     let end = at_most(a[NUMBERS], 16);
     run_of(list, b, p, &turns[0..end], a)
 }
@@ -221,12 +209,14 @@ fn beside(r: Called, p: Pending) -> Made {
             v4: 0,
             taken: 0,
         },
-        breaker,
-        pending: p,
+        ours: Ours {
+            breaker,
+            pending: p,
+        },
     }
 }
 
-fn make_in(list: &mut [u64], b: Breaker, p: Pending, a: &Asked) -> Made {
+fn make_in(list: &mut [u64], b: Breaker, p: Pending, a: Asked) -> Made {
     let kind = a[at::KIND];
     match kind {
         at::START => start(list, b, p, a),
@@ -239,7 +229,9 @@ fn make_in(list: &mut [u64], b: Breaker, p: Pending, a: &Asked) -> Made {
 }
 
 // Makes the call on this record and this wait, in as many places of the storage as it says.
-pub(crate) fn make(list: &mut [u64], b: Breaker, p: Pending, a: &Asked) -> Made {
+pub(crate) fn make(list: &mut [u64], ours: Ours, a: Asked) -> Made {
     let end = at_most(a[ROOM], list.len());
+    let b = ours.breaker;
+    let p = ours.pending;
     make_in(&mut list[0..end], b, p, a)
 }

@@ -10,16 +10,15 @@ use crate::compare::stands;
 use crate::make;
 use crate::make::Asked;
 use crate::make::Made;
+use crate::make::Ours;
 use crate::make::make;
 use crate::tallies;
 use crate::tallies::Tallies;
 use crate::tallies::tally;
 use crate::tallies::tally_told;
-use breaker::Breaker;
 use crossing::Waited;
 use wait::LATEST;
 use wait::LONGEST;
-use waiting::Pending;
 
 // What is replaced, by what, and the number that this is refused with.
 const ROWS: [u64; 51] = [
@@ -93,16 +92,15 @@ fn rows_of(kind: u64) -> usize
 }
 
 // A call with one number replaced.
-pub(crate) fn changed(a: &Asked, at: usize, value: u64) -> Asked {
-    let mut next = *a;
+pub(crate) fn changed(mut a: Asked, at: usize, value: u64) -> Asked {
     if at < 19 {
-        next[at] = value;
+        a[at] = value;
     }
-    next
+    a
 }
 
 // The record and the wait as they are, and this number alone.
-fn refused(breaker: Breaker, pending: Pending, number: u64) -> Numbers {
+fn refused(ours: Ours, number: u64) -> Numbers {
     let told = Waited {
         number: 0,
         v1: 0,
@@ -111,11 +109,7 @@ fn refused(breaker: Breaker, pending: Pending, number: u64) -> Numbers {
         v4: 0,
         taken: 0,
     };
-    let mut due = numbers_of(Made {
-        told,
-        breaker,
-        pending,
-    });
+    let mut due = numbers_of(Made { told, ours });
     due[TOLD] = number;
     due
 }
@@ -149,19 +143,10 @@ pub(crate) fn is_plain(kind: u64) -> bool {
 }
 
 // Such a call is refused with `number`.
-fn refuses(
-    list: &mut Places,
-    want: &Want,
-    b: Breaker,
-    p: Pending,
-    a: &Asked,
-    number: u64,
-    t: &mut Tallies,
-) {
-    let breaker = make::record(b, a);
-    let pending = make::pending(p, a);
-    let got = numbers_of(make(list, breaker, pending, a));
-    let due = refused(breaker, pending, number);
+fn refuses(list: &mut Places, want: &Want, ours: Ours, a: Asked, number: u64, t: &mut Tallies) {
+    let handed = make::handed(ours, a);
+    let got = numbers_of(make(list, handed, a));
+    let due = refused(handed, number);
     tally(t, tallies::REFUSALS);
     judge(a[at::KIND], &got, &due, list, want, t);
 }
@@ -169,96 +154,65 @@ fn refuses(
 fn refuses_all(
     list: &mut Places,
     want: &Want,
-    b: Breaker,
-    p: Pending,
-    a: &Asked,
+    ours: Ours,
+    a: Asked,
     rows: &[u64],
     t: &mut Tallies,
 ) {
     let mut i: usize = 0;
     while i + 2 < rows.len() {
         let next = changed(a, rows[i] as usize, rows[i + 1]);
-        refuses(list, want, b, p, &next, rows[i + 2], t);
+        refuses(list, want, ours, next, rows[i + 2], t);
         i += 3;
     }
 }
 
 // The refusals of a call of this kind. A wait is due at most LATEST after what it has seen.
-fn kind_refuses(
-    list: &mut Places,
-    want: &Want,
-    b: Breaker,
-    p: Pending,
-    a: &Asked,
-    t: &mut Tallies,
-) {
+fn kind_refuses(list: &mut Places, want: &Want, ours: Ours, a: Asked, t: &mut Tallies) {
     let rows = ROWS;
     let end = rows_of(a[at::KIND]);
-    refuses_all(list, want, b, p, a, &rows[0..end], t);
+    refuses_all(list, want, ours, a, &rows[0..end], t);
     if 6 < end {
         let late = std::num::wrapping_add_u64(LATEST + 1, a[make::SEEN]);
-        refuses(list, want, b, p, &changed(a, make::DUE, late), 1, t);
+        refuses(list, want, ours, changed(a, make::DUE, late), 1, t);
     }
 }
 
 // A clock or a timeout over its bound.
-fn start_refuses(
-    list: &mut Places,
-    want: &Want,
-    b: Breaker,
-    p: Pending,
-    a: &Asked,
-    t: &mut Tallies,
-) {
+fn start_refuses(list: &mut Places, want: &Want, ours: Ours, a: Asked, t: &mut Tallies) {
     let limited = changed(a, at::START_LIMITED, 1);
     refuses(
         list,
         want,
-        b,
-        p,
-        &changed(a, at::START_CLOCK, LONGEST + 1),
+        ours,
+        changed(a, at::START_CLOCK, LONGEST + 1),
         1,
         t,
     );
     refuses(
         list,
         want,
-        b,
-        p,
-        &changed(&limited, at::START_TIMEOUT, LONGEST + 1),
+        ours,
+        changed(limited, at::START_TIMEOUT, LONGEST + 1),
         1,
         t,
     );
 }
 
 // The refusals of a line's call. A turn is refused as a run too.
-pub(crate) fn all_refuse(
-    list: &mut Places,
-    want: &Want,
-    b: Breaker,
-    p: Pending,
-    a: &Asked,
-    t: &mut Tallies,
-) {
+pub(crate) fn all_refuse(list: &mut Places, want: &Want, ours: Ours, a: Asked, t: &mut Tallies) {
     let kind = a[at::KIND];
-    kind_refuses(list, want, b, p, a, t);
+    kind_refuses(list, want, ours, a, t);
     if kind == at::START {
-        start_refuses(list, want, b, p, a, t);
+        start_refuses(list, want, ours, a, t);
     }
     if kind == at::TURN {
-        kind_refuses(list, want, b, p, &changed(a, at::KIND, at::RUN), t);
+        kind_refuses(list, want, ours, changed(a, at::KIND, at::RUN), t);
     }
 }
 
 // A turn, a run and a drop of a wait that has ended: 11.
-pub(crate) fn ended_refuses(
-    list: &mut Places,
-    want: &Want,
-    b: Breaker,
-    p: Pending,
-    a: &Asked,
-    t: &mut Tallies,
-) {
+pub(crate) fn ended_refuses(list: &mut Places, want: &Want, ours: Ours, a: Asked, t: &mut Tallies) {
     let rows = [
         at::KIND as u64,
         at::TURN,
@@ -270,5 +224,5 @@ pub(crate) fn ended_refuses(
         at::DROP,
         11,
     ];
-    refuses_all(list, want, b, p, a, &rows, t);
+    refuses_all(list, want, ours, a, &rows, t);
 }

@@ -39,7 +39,6 @@ use breaker::Shared;
 use breaker::no_counts;
 use history::PLACES;
 use trip::Config;
-use waiting::Pending;
 
 // Before the first build: a record of zeros, which is not sound.
 pub(crate) fn nothing() -> Ours {
@@ -70,20 +69,20 @@ pub(crate) fn nothing() -> Ours {
 
 // Builds a breaker in the record and the storage that the last one left: all is 0 but the settings.
 fn build(ours: Ours, list: &mut Places, want: &mut Want, n: &Line, t: &mut Tallies) -> Ours {
-    let b = ours.breaker;
-    let p = no_pending();
-    let left = make(list, b, p, &asked(b, p, n));
-    let breaker = left.breaker;
+    let breaker = ours.breaker;
+    let fresh = Ours {
+        breaker,
+        pending: no_pending(),
+    };
+    let left = make(list, fresh, asked(fresh, n));
+    let built = left.ours;
     let mut due = no_numbers();
     push(&mut due, SETTINGS, n, at::BUILT, at::RECORD_WIDTH);
     pop(want, PLACES);
     push(want, WANT_SETTINGS, n, at::BUILT, at::RECORD_WIDTH);
     want[WANT_LEN] = 0;
     judge(at::CALL, &numbers_of(left), &due, list, want, t);
-    Ours {
-        breaker,
-        pending: p,
-    }
+    built
 }
 
 fn shared_of(n: &Line) -> Shared {
@@ -190,73 +189,47 @@ fn course(due: &Numbers, n: &Line, number: u64) -> Numbers {
     next
 }
 
-fn run(
-    list: &mut Places,
-    want: &Want,
-    b: Breaker,
-    p: Pending,
-    a: &Asked,
-    due: &Numbers,
-    t: &mut Tallies,
-) {
+fn run(list: &mut Places, want: &Want, ours: Ours, a: Asked, due: &Numbers, t: &mut Tallies) {
+    let got = numbers_of(make(list, ours, a));
     tally(t, tallies::RUNS);
-    judge(
-        at::RUN,
-        &numbers_of(make(list, b, p, a)),
-        due,
-        list,
-        want,
-        t,
-    );
+    judge(at::RUN, &got, due, list, want, t);
 }
 
 // A turn as a run: its turns used up; its limit used up; and a second turn, which is refused.
 fn runs(
     list: &mut Places,
     want: &Want,
-    b: Breaker,
-    p: Pending,
-    a: &Asked,
+    ours: Ours,
+    a: Asked,
     due: &Numbers,
     n: &Line,
     t: &mut Tallies,
 ) {
     let one = changed(a, at::KIND, at::RUN);
-    let two = changed(&one, make::NUMBERS, 16);
+    let two = changed(one, make::NUMBERS, 16);
     let unfinished = course(due, n, 10);
+    let refused = course(due, n, 11);
     run(
         list,
         want,
-        b,
-        p,
-        &changed(&one, make::MOST, 2),
+        ours,
+        changed(one, make::MOST, 2),
         &unfinished,
         t,
     );
-    run(list, want, b, p, &two, &unfinished, t);
-    run(
-        list,
-        want,
-        b,
-        p,
-        &changed(&two, make::MOST, 2),
-        &course(due, n, 11),
-        t,
-    );
+    run(list, want, ours, two, &unfinished, t);
+    run(list, want, ours, changed(two, make::MOST, 2), &refused, t);
 }
 
 // Makes a line's call after its refusals, and compares it. No breaker is asked for a charge, so none refuses it.
 fn call(ours: Ours, list: &mut Places, want: &mut Want, n: &Line, t: &mut Tallies) -> Ours {
     let kind = n[at::KIND];
-    let b = ours.breaker;
-    let p = ours.pending;
-    let a = asked(b, p, n);
+    let a = asked(ours, n);
     if !is_charge(n) {
-        all_refuse(list, want, b, p, &a, t);
+        all_refuse(list, want, ours, a, t);
     }
-    let left = make(list, b, p, &a);
-    let breaker = left.breaker;
-    let pending = left.pending;
+    let left = make(list, ours, a);
+    let after = left.ours;
     let got = numbers_of(left);
     if is_plain(kind) {
         follow(want, n, t);
@@ -264,12 +237,12 @@ fn call(ours: Ours, list: &mut Places, want: &mut Want, n: &Line, t: &mut Tallie
     let due = due(want, n, &got);
     judge(kind, &got, &due, list, want, t);
     if kind == at::TURN {
-        runs(list, want, b, p, &a, &due, n, t);
+        runs(list, want, ours, a, &due, n, t);
     }
     if ends(n) {
-        ended_refuses(list, want, breaker, pending, &asked(breaker, pending, n), t);
+        ended_refuses(list, want, after, asked(after, n), t);
     }
-    Ours { breaker, pending }
+    after
 }
 
 fn is_charge(n: &Line) -> bool {

@@ -6,10 +6,10 @@ use Rattle.vectors.proofs.refusals.refuses_all.Statement.{statement}
 use Rattle.vectors.proofs.refusals.refuses_all.Tie as tie
 
 abbrev Inv-loop : tie.InvT-loop
-Inv-loop list₀ want b p a rows t₀ i₀ list t i = i ≤ length rows
+Inv-loop list₀ want ours a rows t₀ i₀ list t i = i ≤ length rows
 
 abbrev μ-loop : tie.MeasureT-loop
-μ-loop list₀ want b p a rows t₀ i₀ list t i = length rows - i
+μ-loop list₀ want ours a rows t₀ i₀ list t i = length rows - i
 
 loop-holds : tie.Need-loop-holds Inv-loop μ-loop
 loop-holds c = search needs
