@@ -1,14 +1,23 @@
-// A call of the sample, made on our breaker. A line has the operation at 1, the reading at 2 and a to d from 3 on.
-use crate::lines::Line;
-use crate::told;
-use crate::told::Told;
+// The calls of the sample: one function for each, and which one a line asks for.
+use crate::columns as at;
+use crate::lent;
+use crate::lent::Counting;
+use crate::lent::Stood;
+use crate::make::Asked;
+use breaker::Acquisition;
+use breaker::Admitted;
 use breaker::Breaker;
 use breaker::Decision;
-use breaker::Delay;
+use breaker::Noticed;
 use breaker::Reservation;
+use breaker::Reserving;
+use breaker::Settled;
 use breaker::Ticket;
+use breaker::TriedAdmission;
+use crossing::Setting;
+use crossing::Told;
 
-// An answer and the record after it.
+// What a call told, and the record after it.
 pub(crate) struct Called {
     pub(crate) told: Told,
     pub(crate) breaker: Breaker,
@@ -19,205 +28,193 @@ pub(crate) fn narrow(n: u64) -> u32 {
     (n % 0x1_0000_0000) as u32
 }
 
-fn ticket(n: &Line) -> Ticket {
+// ---- what a line says
+
+fn ticket(a: Asked) -> Ticket {
     Ticket {
-        generation: n[3],
-        probe: n[4] != 0,
+        generation: a[at::GENERATION],
+        probe: a[at::PROBE] != 0,
     }
 }
 
-// The inner limiter's reply: 1, 2 with a delay, or 3.
-fn inner(n: &Line) -> Decision {
-    if n[3] == 1 {
-        return Decision::Acquired;
-    }
-    if n[3] == 2 {
-        return Decision::Retry(Delay { ms: n[4] });
-    }
-    Decision::Impossible
+fn reply(a: Asked) -> Decision {
+    crossing::decision_by((a[at::REPLY] % 256) as u8, a[at::REPLY_MS])
 }
 
-fn inner_wait(n: &Line) -> Reservation {
-    if n[3] == 1 {
-        return Reservation::Wait(Delay { ms: n[4] });
-    }
-    Reservation::Nothing
+fn reservation(a: Asked) -> Reservation {
+    crossing::reservation_by((a[at::REPLY] % 256) as u8, a[at::REPLY_MS])
 }
 
-// Whether a to d are at most these.
-fn at_most(n: &Line, a: u64, b: u64, c: u64) -> bool {
-    if a < n[3] {
-        return false;
+// The number of these bits. Those of a NaN stand for any NaN.
+fn ratio(bits: u64) -> f64 {
+    if bits % 0x8000_0000_0000_0000 > 0x7ff0_0000_0000_0000 {
+        return 0.0 / 0.0;
     }
-    if b < n[4] {
-        return false;
-    }
-    if c < n[5] {
-        return false;
-    }
-    n[6] == 0
+    f64::from_bits(bits)
 }
 
-// Whether the operation is one, and a to d are what it takes.
-pub(crate) fn takes(n: &Line) -> bool {
-    let any: u64 = 0xffff_ffff_ffff_ffff;
-    let word: u64 = 0xffff_ffff;
-    let op = n[1];
+fn setting(a: Asked) -> Setting {
+    Setting {
+        kind: (a[at::POLICY] % 256) as u8,
+        limit: narrow(a[at::LIMIT]),
+        ratio: ratio(a[at::RATIO_BITS]),
+        min_calls: narrow(a[at::MIN_CALLS]),
+        period_secs: a[at::PERIOD_SECS],
+        period_nanos: narrow(a[at::PERIOD_NANOS]),
+        cooldown_secs: a[at::COOLDOWN_SECS],
+        cooldown_nanos: narrow(a[at::COOLDOWN_NANOS]),
+        trials: narrow(a[at::TRIALS]),
+        required: narrow(a[at::REQUIRED]),
+    }
+}
+
+// ---- what an answer tells
+
+fn finished(r: Settled) -> Called {
+    let answer = r.answer;
+    let breaker = r.breaker;
+    Called {
+        told: crossing::tell_finished(answer),
+        breaker,
+    }
+}
+
+fn noticed(r: Noticed) -> Called {
+    let answer = r.answer;
+    let breaker = r.breaker;
+    Called {
+        told: crossing::tell_notice(answer),
+        breaker,
+    }
+}
+
+fn admitted(r: Admitted) -> Called {
+    let answer = r.answer;
+    let breaker = r.breaker;
+    Called {
+        told: crossing::tell_admission(answer),
+        breaker,
+    }
+}
+
+fn tried(r: TriedAdmission) -> Called {
+    let answer = r.answer;
+    let breaker = r.breaker;
+    Called {
+        told: crossing::tell_tried(answer),
+        breaker,
+    }
+}
+
+fn stood(r: Stood) -> Called {
+    let answer = r.answer;
+    let breaker = r.breaker;
+    Called {
+        told: crossing::tell_standing(answer),
+        breaker,
+    }
+}
+
+fn decided(r: Acquisition) -> Called {
+    let answer = r.answer;
+    let breaker = r.breaker;
+    Called {
+        told: crossing::tell_decided(answer),
+        breaker,
+    }
+}
+
+fn reserved(r: Reserving) -> Called {
+    let answer = r.answer;
+    let breaker = r.breaker;
+    Called {
+        told: crossing::tell_reserved(answer),
+        breaker,
+    }
+}
+
+fn counted(r: Counting) -> Called {
+    let answer = r.answer;
+    let breaker = r.breaker;
+    Called {
+        told: crossing::tell_counted(answer),
+        breaker,
+    }
+}
+
+// ---- the calls
+
+pub(crate) fn build(b: Breaker, list: &mut [u64], a: Asked) -> Called {
+    finished(lent::build(b, list, crossing::builder_by(setting(a))))
+}
+
+fn permit(b: Breaker, list: &mut [u64], now_ms: u64, t: Ticket, outcome: u64) -> Called {
+    match outcome {
+        at::SUCCESS => finished(lent::permit_success(b, list, now_ms, t)),
+        at::FAILURE => finished(lent::permit_failure(b, list, now_ms, t)),
+        at::DROPPED => finished(lent::permit_dropped(b, list, now_ms, t)),
+        _ => noticed(lent::permit_cancel(b, list, t)),
+    }
+}
+
+// What is to be charged: no breaker is asked.
+fn charge(b: Breaker, cost: u32) -> Called {
+    Called {
+        told: Told {
+            number: 0,
+            v1: admission::charge(cost) as u64,
+            v2: 0,
+            v3: 0,
+        },
+        breaker: b,
+    }
+}
+
+// The calls with a ticket or an outcome.
+fn call_plain(b: Breaker, list: &mut [u64], a: Asked) -> Called {
+    let op = a[at::OP];
+    let now_ms = a[at::NOW_MS];
+    let t = ticket(a);
+    let flag = a[at::FLAG] != 0;
+    let outcome = a[at::OUTCOME];
     match op {
-        1 | 5 => at_most(n, 1, 0, 0),
-        2 | 3 => at_most(n, any, 1, 1),
-        4 | 6 => at_most(n, 0, 0, 0),
-        7 => at_most(n, any, 1, 0),
-        8 | 10 | 11 | 13 => {
-            if n[3] == 0 {
-                return false;
-            }
-            at_most(n, 3, any, word)
-        }
-        9 => {
-            if n[5] == 0 {
-                return false;
-            }
-            at_most(n, any, 1, 4)
-        }
-        12 => at_most(n, 1, any, word),
-        14 => at_most(n, word, 0, word),
-        15 => at_most(n, 0, 0, word),
-        _ => false,
+        at::ADMIT_AS => admitted(lent::admit_as(b, list, now_ms, flag)),
+        at::SETTLE => finished(lent::settle(b, list, now_ms, t, outcome != 0)),
+        at::ABORT_AS => finished(lent::abort_as(b, list, t, outcome != 0)),
+        at::RELEASE_TRAIT_PROBE => finished(lent::release_trait_probe(b, list)),
+        at::RECORD_MANUAL => finished(lent::record_manual(b, list, now_ms, flag)),
+        at::RESET => finished(lent::reset(b, list)),
+        at::STILL_ADMITS => stood(lent::still_admits(b, list, now_ms, t)),
+        _ => permit(b, list, now_ms, t, outcome),
     }
 }
 
-fn admit_as(b: Breaker, list: &mut [u64], n: &Line) -> Called {
-    let r = admission::admit_as(b, list, n[2], n[3] != 0);
-    let breaker = r.breaker;
-    let a = r.answer;
-    Called {
-        told: told::admission(a),
-        breaker,
-    }
-}
-
-fn finished(r: breaker::Settled) -> Called {
-    let breaker = r.breaker;
-    let a = r.answer;
-    Called {
-        told: told::finished(a),
-        breaker,
-    }
-}
-
-fn noticed(r: breaker::Noticed) -> Called {
-    let breaker = r.breaker;
-    let a = r.answer;
-    Called {
-        told: told::notice(a),
-        breaker,
-    }
-}
-
-fn settle(b: Breaker, list: &mut [u64], n: &Line) -> Called {
-    finished(circuit::settle(b, list, n[2], ticket(n), n[5] != 0))
-}
-
-fn abort_as(b: Breaker, list: &mut [u64], n: &Line) -> Called {
-    finished(circuit::abort_as(b, list, ticket(n), n[5] != 0))
-}
-
-fn record_manual(b: Breaker, list: &mut [u64], n: &Line) -> Called {
-    finished(circuit::record_manual(b, list, n[2], n[3] != 0))
-}
-
-fn still_admits(b: Breaker, list: &[u64], n: &Line) -> Called {
-    Called {
-        told: told::standing(admission::still_admits(b, list, n[2], ticket(n))),
-        breaker: b,
-    }
-}
-
-fn try_admit(b: Breaker, list: &mut [u64], n: &Line) -> Called {
-    let r = admission::try_admit(b, list, n[2], inner(n), narrow(n[5]));
-    let breaker = r.breaker;
-    let a = r.answer;
-    Called {
-        told: told::tried(a),
-        breaker,
-    }
-}
-
-// c: 1 success, 2 failure, 3 dropped, 4 cancel.
-fn permit(b: Breaker, list: &mut [u64], n: &Line) -> Called {
-    let t = ticket(n);
-    if n[5] == 1 {
-        return finished(circuit::permit_success(b, list, n[2], t));
-    }
-    if n[5] == 2 {
-        return finished(circuit::permit_failure(b, list, n[2], t));
-    }
-    if n[5] == 3 {
-        return finished(circuit::permit_dropped(b, list, n[2], t));
-    }
-    noticed(circuit::permit_cancel(b, list, t))
-}
-
-fn peek(b: Breaker, list: &[u64], n: &Line) -> Called {
-    Called {
-        told: told::decided(admission::peek(b, list, n[2], inner(n))),
-        breaker: b,
-    }
-}
-
-fn acquire_cost(b: Breaker, list: &mut [u64], n: &Line) -> Called {
-    let r = admission::acquire_cost(b, list, n[2], inner(n));
-    let breaker = r.breaker;
-    let a = r.answer;
-    Called {
-        told: told::decided(a),
-        breaker,
-    }
-}
-
-fn reserve(b: Breaker, list: &mut [u64], n: &Line) -> Called {
-    let r = admission::reserve(b, list, n[2], inner_wait(n));
-    let breaker = r.breaker;
-    let a = r.answer;
-    Called {
-        told: told::reserved(a),
-        breaker,
-    }
-}
-
-fn available(b: Breaker, list: &[u64], n: &Line) -> Called {
-    Called {
-        told: told::counted(admission::available(b, list, n[2], inner(n), narrow(n[5]))),
-        breaker: b,
-    }
-}
-
-fn charge(b: Breaker, n: &Line) -> Called {
-    Called {
-        told: [0, admission::charge(narrow(n[3])) as u64, 0, 0],
-        breaker: b,
-    }
-}
-
-// Makes the call of a line.
-pub(crate) fn call(b: Breaker, list: &mut [u64], n: &Line) -> Called {
-    let op = n[1];
+// The calls with what the inner limiter replied, or with a cost.
+fn call_inner(b: Breaker, list: &mut [u64], a: Asked) -> Called {
+    let op = a[at::OP];
+    let now_ms = a[at::NOW_MS];
+    let amount = narrow(a[at::AMOUNT]);
     match op {
-        1 => admit_as(b, list, n),
-        2 => settle(b, list, n),
-        3 => abort_as(b, list, n),
-        4 => finished(circuit::release_trait_probe(b, list)),
-        5 => record_manual(b, list, n),
-        6 => finished(circuit::reset(b, list)),
-        7 => still_admits(b, list, n),
-        8 => try_admit(b, list, n),
-        9 => permit(b, list, n),
-        10 => peek(b, list, n),
-        11 => acquire_cost(b, list, n),
-        12 => reserve(b, list, n),
-        13 => available(b, list, n),
-        14 => charge(b, n),
-        _ => noticed(admission::refund(b, list, narrow(n[5]))),
+        at::TRY_ADMIT => tried(lent::try_admit(b, list, now_ms, reply(a), amount)),
+        at::PEEK => decided(lent::peek(b, list, now_ms, reply(a))),
+        at::ACQUIRE_COST => decided(lent::acquire_cost(b, list, now_ms, reply(a))),
+        at::RESERVE => reserved(lent::reserve(b, list, now_ms, reservation(a))),
+        at::AVAILABLE => counted(lent::available(b, list, now_ms, reply(a), amount)),
+        at::CHARGE => charge(b, narrow(a[at::INNER_COST])),
+        _ => noticed(lent::refund(b, list, amount)),
+    }
+}
+
+pub(crate) fn call(b: Breaker, list: &mut [u64], a: Asked) -> Called {
+    let op = a[at::OP];
+    match op {
+        at::TRY_ADMIT
+        | at::PEEK
+        | at::ACQUIRE_COST
+        | at::RESERVE
+        | at::AVAILABLE
+        | at::CHARGE
+        | at::REFUND => call_inner(b, list, a),
+        _ => call_plain(b, list, a),
     }
 }

@@ -1,142 +1,228 @@
-// What document 01 refuses of a wait: each is tried, and must change nothing.
+// What document 01 refuses: each is tried, and must change nothing.
+ghost use Prim.Native.Nat.{_≤_};
+use crate::columns as at;
+use crate::compare::Numbers;
 use crate::compare::Places;
-use crate::compare::push;
+use crate::compare::TOLD;
+use crate::compare::Want;
+use crate::compare::numbers_of;
 use crate::compare::stands;
+use crate::make;
+use crate::make::Asked;
+use crate::make::Made;
+use crate::make::Ours;
+use crate::make::make;
+use crate::tallies;
 use crate::tallies::Tallies;
 use crate::tallies::tally;
 use crate::tallies::tally_told;
-use crate::waits::Numbers;
-use crate::waits::make;
-use crate::waits::zeros;
+use crossing::Waited;
+use wait::LATEST;
+use wait::LONGEST;
 
-// The numbers of a call with one replaced.
-pub(crate) fn changed(a: &Numbers, at: usize, value: u64) -> Numbers {
-    let mut next = *a;
-    if at < 38 {
-        next[at] = value;
+// What is replaced, by what, and the number that this is refused with.
+const ROWS: [u64; 51] = [
+    // of every call: a place less, a state that is none
+    make::ROOM as u64,
+    4095,
+    3,
+    make::STATE as u64,
+    3,
+    4,
+    // of a wait's but a start: it has ended, or a time is over its bound
+    make::PHASE as u64,
+    0,
+    11,
+    make::PHASE as u64,
+    3,
+    11,
+    make::DEADLINE as u64,
+    LATEST + 1,
+    1,
+    make::SEEN as u64,
+    LONGEST + 1,
+    1,
+    // of a turn: a reply of no kind, or a time is over its bound
+    at::TURN_KIND as u64,
+    0,
+    11,
+    at::TURN_KIND as u64,
+    4,
+    11,
+    at::TURN_CLOCK as u64,
+    LONGEST + 1,
+    1,
+    at::TURN_DURATION as u64,
+    LONGEST + 1,
+    1,
+    at::TURN_PAUSE as u64,
+    LONGEST + 1,
+    1,
+    at::TURN_POSTPONED_BEFORE as u64,
+    LONGEST + 1,
+    1,
+    at::TURN_POSTPONED_AFTER as u64,
+    LONGEST + 1,
+    1,
+    // of a run: no whole turn, a limit of 0, no turn
+    make::NUMBERS as u64,
+    7,
+    3,
+    make::NUMBERS as u64,
+    9,
+    3,
+    make::MOST as u64,
+    0,
+    10,
+    make::NUMBERS as u64,
+    0,
+    10,
+];
+
+// How many of these numbers belong to a call of this kind.
+fn rows_of(kind: u64) -> usize
+    ensures { λ r. ⌜ r ≤ 51 ⌝ }
+{
+    match kind {
+        at::DROP => 18,
+        at::TURN => 39,
+        at::RUN => 51,
+        _ => 6,
     }
-    next
 }
 
-fn meets(r: &Numbers, due: &Numbers, list: &Places, want: &Places) -> bool {
-    if !stands(r, due, 0) {
-        return false;
+// A call with one number replaced.
+pub(crate) fn changed(mut a: Asked, at: usize, value: u64) -> Asked {
+    if at < 19 {
+        a[at] = value;
     }
-    stands(list, want, 0)
+    a
 }
 
-// Counts what a wait is told, and a miss where a call does not come to what is due.
-pub(crate) fn judge(r: &Numbers, due: &Numbers, list: &Places, want: &Places, t: &mut Tallies) {
-    tally_told(t, r[24]);
-    if !meets(r, due, list, want) {
-        tally(t, 0);
-    }
-}
-
-// Makes a call, and judges it.
-pub(crate) fn comes_to(
-    list: &mut Places,
-    want: &Places,
-    a: &Numbers,
-    due: &Numbers,
-    t: &mut Tallies,
-) {
-    let r = make(list, a);
-    judge(&r, due, list, want, t);
-}
-
-// The breaker and the wait as they are handed in, and this number alone.
-fn refused(a: &Numbers, number: u64) -> Numbers {
-    let mut due = zeros();
-    push(&mut due, 0, a, 0, 24);
-    due[24] = number;
+// The record and the wait as they are, and this number alone.
+fn refused(ours: Ours, number: u64) -> Numbers {
+    let told = Waited {
+        number: 0,
+        v1: 0,
+        v2: 0,
+        v3: 0,
+        v4: 0,
+        taken: 0,
+    };
+    let mut due = numbers_of(Made { told, ours });
+    due[TOLD] = number;
     due
 }
 
-// A call with one number replaced is refused with `number`.
-fn refuses(
-    list: &mut Places,
-    want: &Places,
-    a: &Numbers,
-    at: usize,
-    value: u64,
-    number: u64,
+// Counts a miss where a call did not come to what is due, in the record, the wait or a place, and what a wait was told.
+pub(crate) fn judge(
+    kind: u64,
+    got: &Numbers,
+    due: &Numbers,
+    list: &Places,
+    want: &Want,
     t: &mut Tallies,
 ) {
-    let next = changed(a, at, value);
-    let due = refused(&next, number);
-    tally(t, 19);
-    comes_to(list, want, &next, &due, t);
-}
-
-// 4,095 places: 3. A state of 3: 4.
-fn record_refusals(list: &mut Places, want: &Places, a: &Numbers, t: &mut Tallies) {
-    refuses(list, want, a, 35, 4095, 3, t);
-    refuses(list, want, a, 8, 3, 4, t);
-}
-
-// A wait that has ended, phase 0 or 3: 11. Its deadline, seen or due over its bound: 1.
-fn wait_refusals(list: &mut Places, want: &Places, a: &Numbers, t: &mut Tallies) {
-    let due = std::num::wrapping_add_u64(0x8000_0000_0000_0001, a[19]);
-    refuses(list, want, a, 16, 0, 11, t);
-    refuses(list, want, a, 16, 3, 11, t);
-    refuses(list, want, a, 18, 0x8000_0000_0000_0001, 1, t);
-    refuses(list, want, a, 19, 0x4000_0000_0000_0001, 1, t);
-    refuses(list, want, a, 20, due, 1, t);
-}
-
-// A reply kind of 0 or 4: 11. A clock, duration, pause or postponement over 2^62: 1.
-fn turn_refusals(list: &mut Places, want: &Places, a: &Numbers, t: &mut Tallies) {
-    let over: u64 = 0x4000_0000_0000_0001;
-    refuses(list, want, a, 30, 0, 11, t);
-    refuses(list, want, a, 30, 4, 11, t);
-    refuses(list, want, a, 27, over, 1, t);
-    refuses(list, want, a, 31, over, 1, t);
-    refuses(list, want, a, 32, over, 1, t);
-    refuses(list, want, a, 33, over, 1, t);
-    refuses(list, want, a, 34, over, 1, t);
-}
-
-// Turns of 7 or 9 numbers: 3. A limit of 0, or no turns: 10.
-fn run_refusals(list: &mut Places, want: &Places, a: &Numbers, t: &mut Tallies) {
-    refuses(list, want, a, 36, 7, 3, t);
-    refuses(list, want, a, 36, 9, 3, t);
-    refuses(list, want, a, 37, 0, 10, t);
-    refuses(list, want, a, 36, 0, 10, t);
-}
-
-// A clock or a timeout over 2^62: 1.
-fn start_refusals(list: &mut Places, want: &Places, a: &Numbers, t: &mut Tallies) {
-    let limited = changed(a, 27, 1);
-    refuses(list, want, a, 26, 0x4000_0000_0000_0001, 1, t);
-    refuses(list, want, &limited, 28, 0x4000_0000_0000_0001, 1, t);
-}
-
-// What a turn refuses, and a run of that turn.
-fn both_refuse(list: &mut Places, want: &Places, a: &Numbers, t: &mut Tallies) {
-    let run = changed(a, 24, 7);
-    wait_refusals(list, want, a, t);
-    turn_refusals(list, want, a, t);
-    record_refusals(list, want, &run, t);
-    wait_refusals(list, want, &run, t);
-    turn_refusals(list, want, &run, t);
-    run_refusals(list, want, &run, t);
-}
-
-// The refusals of a line's call.
-pub(crate) fn all_refuse(list: &mut Places, want: &Places, a: &Numbers, t: &mut Tallies) {
-    record_refusals(list, want, a, t);
-    let call = a[24];
-    match call {
-        3 => start_refusals(list, want, a, t),
-        4 => both_refuse(list, want, a, t),
-        _ => wait_refusals(list, want, a, t),
+    if !is_plain(kind) {
+        tally_told(t, got[TOLD]);
+    }
+    if !stands(got, due, 0) {
+        tally(t, tallies::MISSES);
+    }
+    if !stands(list, want, 0) {
+        tally(t, tallies::MISSES);
     }
 }
 
-// A turn, a run or a drop of a wait that has ended: 11.
-pub(crate) fn ended_refuses(list: &mut Places, want: &Places, a: &Numbers, t: &mut Tallies) {
-    refuses(list, want, a, 24, 4, 11, t);
-    refuses(list, want, a, 24, 7, 11, t);
-    refuses(list, want, a, 24, 5, 11, t);
+// Whether this is a call on the breaker alone.
+pub(crate) fn is_plain(kind: u64) -> bool {
+    match kind {
+        at::CALL | at::BETWEEN => true,
+        _ => false,
+    }
+}
+
+// Such a call is refused with `number`.
+fn refuses(list: &mut Places, want: &Want, ours: Ours, a: Asked, number: u64, t: &mut Tallies) {
+    let handed = make::handed(ours, a);
+    let got = numbers_of(make(list, handed, a));
+    let due = refused(handed, number);
+    tally(t, tallies::REFUSALS);
+    judge(a[at::KIND], &got, &due, list, want, t);
+}
+
+fn refuses_all(
+    list: &mut Places,
+    want: &Want,
+    ours: Ours,
+    a: Asked,
+    rows: &[u64],
+    t: &mut Tallies,
+) {
+    let mut i: usize = 0;
+    while i + 2 < rows.len() {
+        let next = changed(a, rows[i] as usize, rows[i + 1]);
+        refuses(list, want, ours, next, rows[i + 2], t);
+        i += 3;
+    }
+}
+
+// The refusals of a call of this kind. A wait is due at most LATEST after what it has seen.
+fn kind_refuses(list: &mut Places, want: &Want, ours: Ours, a: Asked, t: &mut Tallies) {
+    let rows = ROWS;
+    let end = rows_of(a[at::KIND]);
+    refuses_all(list, want, ours, a, &rows[0..end], t);
+    if 6 < end {
+        let late = std::num::wrapping_add_u64(LATEST + 1, a[make::SEEN]);
+        refuses(list, want, ours, changed(a, make::DUE, late), 1, t);
+    }
+}
+
+// A clock or a timeout over its bound.
+fn start_refuses(list: &mut Places, want: &Want, ours: Ours, a: Asked, t: &mut Tallies) {
+    let limited = changed(a, at::START_LIMITED, 1);
+    refuses(
+        list,
+        want,
+        ours,
+        changed(a, at::START_CLOCK, LONGEST + 1),
+        1,
+        t,
+    );
+    refuses(
+        list,
+        want,
+        ours,
+        changed(limited, at::START_TIMEOUT, LONGEST + 1),
+        1,
+        t,
+    );
+}
+
+// The refusals of a line's call. A turn is refused as a run too.
+pub(crate) fn all_refuse(list: &mut Places, want: &Want, ours: Ours, a: Asked, t: &mut Tallies) {
+    let kind = a[at::KIND];
+    kind_refuses(list, want, ours, a, t);
+    if kind == at::START {
+        start_refuses(list, want, ours, a, t);
+    }
+    if kind == at::TURN {
+        kind_refuses(list, want, ours, changed(a, at::KIND, at::RUN), t);
+    }
+}
+
+// A turn, a run and a drop of a wait that has ended: 11.
+pub(crate) fn ended_refuses(list: &mut Places, want: &Want, ours: Ours, a: Asked, t: &mut Tallies) {
+    let rows = [
+        at::KIND as u64,
+        at::TURN,
+        11,
+        at::KIND as u64,
+        at::RUN,
+        11,
+        at::KIND as u64,
+        at::DROP,
+        11,
+    ];
+    refuses_all(list, want, ours, a, &rows, t);
 }

@@ -1,45 +1,48 @@
-// The lines of the sample. A build, a state and a call are replayed here, and compared with what the sample expects.
-use crate::calls;
-use crate::calls::Called;
+// The lines of the sample, replayed on our breaker and our wait, and compared with what the sample expects.
+ghost use Prim.Native.Nat.{_≤_};
 use crate::calls::narrow;
+use crate::columns as at;
+use crate::compare::Numbers;
 use crate::compare::Places;
-use crate::compare::agrees;
-use crate::compare::config_numbers;
+use crate::compare::SETTINGS;
+use crate::compare::SHARED;
+use crate::compare::TAKEN;
+use crate::compare::TOLD;
+use crate::compare::WAIT;
+use crate::compare::WANT_LEN;
+use crate::compare::WANT_SETTINGS;
+use crate::compare::Want;
+use crate::compare::no_numbers;
+use crate::compare::numbers_of;
 use crate::compare::pop;
 use crate::compare::push;
-use crate::compare::shared_numbers;
-use crate::compare::stands;
+use crate::format::is_line;
+use crate::lent;
 use crate::lines::Line;
-use crate::settings;
+use crate::make;
+use crate::make::Asked;
+use crate::make::Ours;
+use crate::make::asked;
+use crate::make::make;
+use crate::make::no_pending;
+use crate::refusals::all_refuse;
+use crate::refusals::changed;
+use crate::refusals::ended_refuses;
+use crate::refusals::is_plain;
+use crate::refusals::judge;
+use crate::tallies;
 use crate::tallies::Tallies;
 use crate::tallies::tally;
-use crate::told;
-use crate::wait_lines;
-use crate::wait_lines::is_wait;
-use crate::waits::no_pending;
 use breaker::Breaker;
 use breaker::Counts;
 use breaker::Shared;
 use breaker::no_counts;
+use history::PLACES;
 use trip::Config;
-use waiting::Pending;
-
-// Our record, and what the sample expects beside the places.
-pub(crate) struct Run {
-    pub(crate) breaker: Breaker,
-    // the settings
-    pub(crate) config: [u64; 8],
-    // the length of the list
-    pub(crate) len: u64,
-    // the wait under way and its ticket, or one that has ended
-    pub(crate) pending: Pending,
-    // whether the last line agreed
-    pub(crate) same: bool,
-}
 
 // Before the first build: a record of zeros, which is not sound.
-pub(crate) fn start() -> Run {
-    Run {
+pub(crate) fn nothing() -> Ours {
+    Ours {
         breaker: Breaker {
             config: Config {
                 kind: 0,
@@ -60,269 +63,231 @@ pub(crate) fn start() -> Run {
                 len: 0,
             },
         },
-        config: [0; 8],
-        len: 0,
         pending: no_pending(),
-        same: true,
     }
 }
 
-fn unlike(run: Run) -> Run {
-    let breaker = run.breaker;
-    let config = run.config;
-    let pending = run.pending;
-    Run {
+// Builds a breaker in the record and the storage that the last one left: all is 0 but the settings.
+fn build(ours: Ours, list: &mut Places, want: &mut Want, n: &Line, t: &mut Tallies) -> Ours {
+    let breaker = ours.breaker;
+    let fresh = Ours {
         breaker,
-        config,
-        len: run.len,
-        pending,
-        same: false,
-    }
-}
-
-fn index(n: u64) -> usize {
-    n as usize
-}
-
-// The eight numbers that a build or a call expects of a record.
-fn expected(n: &Line) -> [u64; 8] {
-    [n[11], n[12], n[13], n[14], n[15], n[16], n[17], n[18]]
-}
-
-// Whether such a call was refused with this number and changed nothing.
-fn refused(b: Breaker, r: Called, number: u64, list: &Places, want: &Places) -> bool {
-    let got = r.told;
-    let only = [number, 0, 0, 0];
-    if !stands(&got, &only, 0) {
-        return false;
-    }
-    agrees(
-        r.breaker,
-        config_numbers(b.config),
-        shared_numbers(b.shared),
-        list,
-        want,
-    )
-}
-
-fn with_state(mut b: Breaker, state: u8) -> Breaker {
-    b.shared.state = state;
-    b
-}
-
-// Makes a call in the first 4,095 places.
-fn call_short(b: Breaker, list: &mut [u64], n: &Line) -> Called {
-    if list.len() < 4095 {
-        return calls::call(b, list, n);
-    }
-    calls::call(b, &mut list[0..4095], n)
-}
-
-// Whether the call is refused with 4,095 places, by 3, and with a state of 3, by 4.
-fn refuses(b: Breaker, list: &mut Places, want: &Places, n: &Line, t: &mut Tallies) -> bool {
-    if n[1] == 14 {
-        return true;
-    }
-    let short = call_short(b, list, n);
-    tally(t, 19);
-    if !refused(b, short, 3, list, want) {
-        return false;
-    }
-    let unsound = with_state(b, 3);
-    let r = calls::call(unsound, list, n);
-    tally(t, 19);
-    refused(unsound, r, 4, list, want)
-}
-
-// The expected list after a call, by the line's popped and pushed alone; its length.
-fn follow(want: &mut Places, len: u64, n: &Line) -> u64 {
-    let popped = n[19];
-    let pushed = n[20];
-    let kept = std::num::wrapping_sub_u64(len, popped);
-    pop(want, index(popped));
-    push(want, index(kept), n, 21, index(pushed));
-    std::num::wrapping_add_u64(kept, pushed)
-}
-
-// Whether a line of so many numbers is a call that the list before it allows.
-fn is_call(n: &Line, count: usize, len: u64) -> bool {
-    if count < 21 {
-        return false;
-    }
-    if index(n[20]) != count - 21 {
-        return false;
-    }
-    if len < n[19] {
-        return false;
-    }
-    calls::takes(n)
-}
-
-// Between turns only operations 1 to 6 are made.
-fn is_between(n: &Line, count: usize, len: u64) -> bool {
-    if 6 < n[1] {
-        return false;
-    }
-    is_call(n, count, len)
-}
-
-// Whether the answer, the record and the places are those of the line.
-fn answers(r: Called, config: [u64; 8], n: &Line, list: &Places, want: &Places) -> bool {
-    let got = r.told;
-    if !stands(&got, n, 7) {
-        return false;
-    }
-    agrees(r.breaker, config, expected(n), list, want)
-}
-
-// Makes a call, after its refusals, and compares it.
-fn call(run: Run, list: &mut Places, want: &mut Places, n: &Line, t: &mut Tallies) -> Run {
-    tally(t, index(n[1]));
-    let before = run.breaker;
-    let config = run.config;
-    let pending = run.pending;
-    let refused = refuses(before, list, want, n, t);
-    let r = calls::call(before, list, n);
-    let breaker = r.breaker;
-    let len = follow(want, run.len, n);
-    let mut same = false;
-    if refused {
-        if len == n[18] {
-            same = answers(r, config, n, list, want);
-        }
-    }
-    Run {
-        breaker,
-        config,
-        len,
-        pending,
-        same,
-    }
-}
-
-// Whether a line of so many numbers is a state that fits a record.
-fn is_state(n: &Line, count: usize) -> bool {
-    if count < 9 {
-        return false;
-    }
-    if index(n[8]) != count - 9 {
-        return false;
-    }
-    if 4096 < n[8] {
-        return false;
-    }
-    if 2 < n[1] {
-        return false;
-    }
-    settings::all_words(n, 3, 7)
+        pending: no_pending(),
+    };
+    let left = make(list, fresh, asked(fresh, n));
+    let built = left.ours;
+    let mut due = no_numbers();
+    push(&mut due, SETTINGS, n, at::BUILT, at::RECORD_WIDTH);
+    pop(want, PLACES);
+    push(want, WANT_SETTINGS, n, at::BUILT, at::RECORD_WIDTH);
+    want[WANT_LEN] = 0;
+    judge(at::CALL, &numbers_of(left), &due, list, want, t);
+    built
 }
 
 fn shared_of(n: &Line) -> Shared {
     Shared {
-        state: (n[1] % 256) as u8,
-        generation: n[2],
-        run: narrow(n[3]),
+        state: (n[at::SET_STATE] % 256) as u8,
+        generation: n[at::SET_GENERATION],
+        run: narrow(n[at::SET_RUN]),
         counts: Counts {
-            inflight: narrow(n[4]),
-            trait_probes: narrow(n[5]),
-            successes: narrow(n[6]),
+            inflight: narrow(n[at::SET_INFLIGHT]),
+            trait_probes: narrow(n[at::SET_TRAIT_PROBES]),
+            successes: narrow(n[at::SET_SUCCESSES]),
         },
-        open_until: n[7],
-        len: narrow(n[8]),
+        open_until: n[at::SET_OPEN_UNTIL],
+        len: narrow(n[at::SET_LEN]),
     }
 }
 
 // Writes the items of a state's line, and zeros behind them.
-fn fill(list: &mut Places, n: &Line) {
-    pop(list, 4096);
-    push(list, 0, n, 9, index(n[8]));
+fn fill(list: &mut [u64], n: &Line) {
+    pop(list, PLACES);
+    push(list, 0, n, at::SET_ITEMS, n[at::SET_LEN] as usize);
 }
 
 // Sets the record and the places. Every state of the sample is sound.
-fn state(run: Run, list: &mut Places, want: &mut Places, n: &Line) -> Run {
+fn set(ours: Ours, list: &mut Places, want: &mut Want, n: &Line, t: &mut Tallies) -> Ours {
     fill(list, n);
     fill(want, n);
-    let before = run.breaker;
-    let config = run.config;
-    let settings = before.config;
-    let breaker = Breaker {
-        config: settings,
-        shared: shared_of(n),
-    };
-    Run {
+    want[WANT_LEN] = n[at::SET_LEN];
+    let mut breaker = ours.breaker;
+    let shared = shared_of(n);
+    breaker.shared = shared;
+    let r = lent::is_sound(breaker, list);
+    if !r.answer {
+        tally(t, tallies::MISSES);
+    }
+    Ours {
         breaker,
-        config,
-        len: n[8],
         pending: no_pending(),
-        same: breaker::is_sound(breaker, list),
     }
 }
 
-// Builds a breaker in the record and the storage that the last one left.
-fn build(run: Run, list: &mut Places, want: &mut Places, n: &Line) -> Run {
-    let before = run.breaker;
-    let r = breaker::build(before, list, settings::builder(n));
-    let breaker = r.breaker;
-    let a = r.answer;
-    pop(want, 4096);
-    let got = told::finished(a);
-    let done = [0u64; 4];
-    let config = expected(n);
-    let mut same = false;
-    if stands(&got, &done, 0) {
-        same = agrees(breaker, config, [0; 8], list, want);
-    }
-    Run {
-        breaker,
-        config,
-        len: 0,
-        pending: no_pending(),
-        same,
+// The expected list after a call, by the line's popped and pushed alone.
+fn follow(want: &mut Want, n: &Line, t: &mut Tallies) {
+    let popped = n[at::POPPED];
+    let pushed = n[at::PUSHED];
+    let kept = std::num::wrapping_sub_u64(want[WANT_LEN], popped);
+    let len = std::num::wrapping_add_u64(kept, pushed);
+    pop(want, popped as usize);
+    push(want, kept as usize, n, at::PUSHED_ITEMS, pushed as usize);
+    want[WANT_LEN] = len;
+    if len != n[at::CALL_LEN] {
+        tally(t, tallies::MISSES);
     }
 }
 
-// Whether a line of so many numbers is one that the list before it allows.
-fn is_line(n: &Line, count: usize, len: u64) -> bool {
-    let kind = n[0];
+// Where a line of this kind says what was told. The record follows it.
+fn told_at(kind: u64) -> usize
+    ensures { λ r. ⌜ r ≤ 11 ⌝ }
+{
     match kind {
-        0 => settings::is_build(n, count),
-        1 => is_state(n, count),
-        2 => is_call(n, count, len),
-        6 => is_between(n, count, len),
-        _ => is_wait(n, count),
+        at::START => at::START_TOLD,
+        at::TURN => at::TURN_TOLD,
+        at::DROP => at::DROP_TOLD,
+        _ => at::CALL_TOLD,
     }
 }
 
-fn tally_line(t: &mut Tallies, kind: u64) {
+// What a line expects of its call, which came to `got`. It says nothing of the wait.
+fn due(want: &Want, n: &Line, got: &Numbers) -> Numbers {
+    let told = told_at(n[at::KIND]);
+    let mut due = no_numbers();
+    push(&mut due, TOLD, n, told, at::TOLD_WIDTH);
+    push(&mut due, SETTINGS, want, WANT_SETTINGS, at::RECORD_WIDTH);
+    push(&mut due, SHARED, n, told + at::TOLD_WIDTH, at::RECORD_WIDTH);
+    push(&mut due, WAIT, got, WAIT, at::RECORD_WIDTH);
+    due
+}
+
+// Whether a wait has ended by this line.
+fn ends(n: &Line) -> bool {
+    let kind = n[at::KIND];
     match kind {
-        0 => tally(t, 17),
-        1 => tally(t, 18),
-        2 => tally(t, 16),
-        3 => tally(t, 21),
-        4 => tally(t, 22),
-        5 => tally(t, 23),
-        _ => tally(t, 24),
+        at::TURN => {
+            if n[at::TURN_TOLD] == 0 {
+                return n[at::TURN_TOLD + 1] == 0;
+            }
+            true
+        }
+        at::DROP => true,
+        _ => false,
+    }
+}
+
+// What a run of the turn comes to: one turn taken, and its end, or this number alone.
+fn course(due: &Numbers, n: &Line, number: u64) -> Numbers {
+    let mut next = *due;
+    if !ends(n) {
+        next[TOLD] = number;
+        next[TOLD + 1] = 0;
+        next[TOLD + 2] = 0;
+        next[TOLD + 3] = 0;
+    }
+    next[TAKEN] = 1;
+    next
+}
+
+fn run(list: &mut Places, want: &Want, ours: Ours, a: Asked, due: &Numbers, t: &mut Tallies) {
+    let got = numbers_of(make(list, ours, a));
+    tally(t, tallies::RUNS);
+    judge(at::RUN, &got, due, list, want, t);
+}
+
+// A turn as a run: its turns used up; its limit used up; and a second turn, which is refused.
+fn runs(
+    list: &mut Places,
+    want: &Want,
+    ours: Ours,
+    a: Asked,
+    due: &Numbers,
+    n: &Line,
+    t: &mut Tallies,
+) {
+    let one = changed(a, at::KIND, at::RUN);
+    let two = changed(one, make::NUMBERS, 16);
+    let unfinished = course(due, n, 10);
+    let refused = course(due, n, 11);
+    run(
+        list,
+        want,
+        ours,
+        changed(one, make::MOST, 2),
+        &unfinished,
+        t,
+    );
+    run(list, want, ours, two, &unfinished, t);
+    run(list, want, ours, changed(two, make::MOST, 2), &refused, t);
+}
+
+// Makes a line's call after its refusals, and compares it. No breaker is asked for a charge, so none refuses it.
+fn call(ours: Ours, list: &mut Places, want: &mut Want, n: &Line, t: &mut Tallies) -> Ours {
+    let kind = n[at::KIND];
+    let a = asked(ours, n);
+    if !is_charge(n) {
+        all_refuse(list, want, ours, a, t);
+    }
+    let left = make(list, ours, a);
+    let after = left.ours;
+    let got = numbers_of(left);
+    if is_plain(kind) {
+        follow(want, n, t);
+    }
+    let due = due(want, n, &got);
+    judge(kind, &got, &due, list, want, t);
+    if kind == at::TURN {
+        runs(list, want, ours, a, &due, n, t);
+    }
+    if ends(n) {
+        ended_refuses(list, want, after, asked(after, n), t);
+    }
+    after
+}
+
+fn is_charge(n: &Line) -> bool {
+    if n[at::KIND] == at::CALL {
+        return n[at::OP] == at::CHARGE;
+    }
+    false
+}
+
+// Counts a line by its kind, and a call by its operation.
+fn tally_line(n: &Line, t: &mut Tallies) {
+    let kind = n[at::KIND];
+    if is_plain(kind) {
+        tally(t, n[at::OP] as usize);
+    }
+    match kind {
+        at::BUILD => tally(t, tallies::BUILDS),
+        at::SET => tally(t, tallies::STATES),
+        at::CALL => tally(t, tallies::STEPS),
+        at::START => tally(t, tallies::STARTS),
+        at::TURN => tally(t, tallies::TURNS),
+        at::DROP => tally(t, tallies::DROPS),
+        _ => tally(t, tallies::CALLS_BETWEEN),
     }
 }
 
 // Replays a line of so many numbers.
 pub(crate) fn replay(
-    run: Run,
+    ours: Ours,
     list: &mut Places,
-    want: &mut Places,
+    want: &mut Want,
     n: &Line,
     count: usize,
     t: &mut Tallies,
-) -> Run {
-    if !is_line(n, count, run.len) {
-        return unlike(run);
+) -> Ours {
+    t[tallies::MISSES] = 0;
+    if !is_line(n, count, want[WANT_LEN]) {
+        tally(t, tallies::MISSES);
+        return ours;
     }
-    let kind = n[0];
-    tally_line(t, kind);
+    tally_line(n, t);
+    let kind = n[at::KIND];
     match kind {
-        0 => build(run, list, want, n),
-        1 => state(run, list, want, n),
-        2 | 6 => call(run, list, want, n, t),
-        _ => wait_lines::replay(run, list, want, n, t),
+        at::BUILD => build(ours, list, want, n, t),
+        at::SET => set(ours, list, want, n, t),
+        _ => call(ours, list, want, n, t),
     }
 }

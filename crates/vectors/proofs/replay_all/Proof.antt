@@ -6,19 +6,19 @@ use Rattle.vectors.proofs.replay_all.Statement.{statement}
 use Rattle.vectors.proofs.replay_all.Tie as tie
 
 abbrev Inv-loop : tie.InvT-loop
-Inv-loop s t₀ list₀ want₀ run₀ at₀ line₀ t list want run at line = (line ≤ at) × (at ≤ length s)
+Inv-loop s t₀ list₀ want₀ ours₀ at₀ line₀ t list want ours at line = (line ≤ at) × (at ≤ length s)
 
 abbrev μ-loop : tie.MeasureT-loop
-μ-loop s t₀ list₀ want₀ run₀ at₀ line₀ t list want run at line = length s - at
+μ-loop s t₀ list₀ want₀ ours₀ at₀ line₀ t list want ours at line = length s - at
 
 places-requires : tie.Need-places-requires Inv-loop μ-loop
 places-requires c κs = search needs
 
-places-requires-2 : tie.Need-places-requires-2 Inv-loop μ-loop
-places-requires-2 c κs = search needs
+nothing-wanted-requires : tie.Need-nothing-wanted-requires Inv-loop μ-loop
+nothing-wanted-requires c κs = search needs
 
-start-requires : tie.Need-start-requires Inv-loop μ-loop
-start-requires c κs = search needs
+nothing-requires : tie.Need-nothing-requires Inv-loop μ-loop
+nothing-requires c κs = search needs
 
 loop-holds : tie.Need-loop-holds Inv-loop μ-loop
 loop-holds c = search needs
@@ -50,12 +50,6 @@ loop-less c = search needs
 loop-again : tie.Need-loop-again Inv-loop μ-loop
 loop-again c = search needs
 
-loop-less-2 : tie.Need-loop-less-2 Inv-loop μ-loop
-loop-less-2 c = search needs
-
-loop-again-2 : tie.Need-loop-again-2 Inv-loop μ-loop
-loop-again-2 c = search needs
-
 returns : tie.Need-returns Inv-loop μ-loop
 returns c = search needs
 
@@ -66,8 +60,8 @@ replay-all-spec =
     Inv-loop
     μ-loop
     places-requires
-    places-requires-2
-    start-requires
+    nothing-wanted-requires
+    nothing-requires
     loop-holds
     line-end-requires
     sub-turn
@@ -78,6 +72,4 @@ replay-all-spec =
     differs-requires
     loop-less
     loop-again
-    loop-less-2
-    loop-again-2
     returns)

@@ -1,8 +1,8 @@
--- `vectors::settings::all_words` is safe and ends. The loop's invariant: `i` is not before `from`. Assumes nothing.
+-- `vectors::format::all_words` is safe and ends. The loop's invariant: `i` is not before `from`. Assumes nothing.
 use Prim.Native.Nat.{_≤_, _-_}
 use borrow.Author.Needs.{needs}
-use Rattle.vectors.proofs.settings.all_words.Statement.{statement}
-use Rattle.vectors.proofs.settings.all_words.Tie as tie
+use Rattle.vectors.proofs.format.all_words.Statement.{statement}
+use Rattle.vectors.proofs.format.all_words.Tie as tie
 
 abbrev Inv-loop : tie.InvT-loop
 Inv-loop n from to i₀ i = from ≤ i

@@ -1,8 +1,8 @@
--- `vectors::settings::ratio` is safe: bits past those of the infinity are a NaN's. Assumes nothing.
+-- `vectors::calls::ratio` is safe: bits past those of the infinity are a NaN's. Assumes nothing.
 use borrow.Author.Needs.{needs}
 use Rattle.trip.proofs.Floats.{no-nan}
-use Rattle.vectors.proofs.settings.ratio.Statement.{statement}
-use Rattle.vectors.proofs.settings.ratio.Tie as tie
+use Rattle.vectors.proofs.calls.ratio.Statement.{statement}
+use Rattle.vectors.proofs.calls.ratio.Tie as tie
 
 returns : tie.Need-returns
 returns c = search needs
