@@ -4,11 +4,15 @@
 pub mod block;
 pub mod body;
 mod calls;
+pub mod compare;
+pub mod draw;
 mod reader;
 pub mod record;
 pub mod refusal;
 pub mod setting;
 pub mod slip;
+pub mod tally;
+pub mod world;
 
 pub use reader::MOST;
 
