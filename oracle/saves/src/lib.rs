@@ -6,6 +6,7 @@ pub mod body;
 mod calls;
 pub mod compare;
 pub mod draw;
+pub mod lines;
 mod reader;
 pub mod record;
 pub mod refusal;

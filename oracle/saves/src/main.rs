@@ -1,7 +1,7 @@
 //! Writes and compares saves. See `USAGE`.
 
 use std::env;
-use std::io;
+use std::io::{self, BufWriter, Write};
 use std::process::ExitCode;
 use std::time::Instant;
 
@@ -10,8 +10,10 @@ use saves::slip::SLIPS;
 use saves::{Model, RIGHT};
 
 const USAGE: &str = "\
-usage: saves draw SEED COUNT       what so many random buffers hold
-       saves slips SEED COUNT      each slip, until it is found";
+usage: saves sample [SEED]         a fixed sample; seed 1 if left out
+       saves draw SEED COUNT       what so many random buffers hold
+       saves slips SEED COUNT      each slip, until it is found
+       saves lines SEED NUMBER     one of the random buffers, as lines of the sample";
 
 fn main() -> ExitCode {
     let args: Vec<String> = env::args().skip(1).collect();
@@ -24,14 +26,36 @@ fn main() -> ExitCode {
 
 fn run(args: &[&str]) -> io::Result<ExitCode> {
     match *args {
+        ["sample"] => sample(1),
+        ["sample", seed] => sample(number(seed)?),
         ["draw", seed, count] => against(&mut { RIGHT }, number(seed)?, number(count)?),
         ["slips", seed, count] => slips(number(seed)?, number(count)?),
+        ["lines", seed, buffer] => lines(number(seed)?, number(buffer)?),
         _ => Err(io::Error::other(USAGE)),
     }
 }
 
 fn number(text: &str) -> io::Result<u64> {
     text.parse().map_err(|_| io::Error::other(USAGE))
+}
+
+/// The sample on standard output, what it holds on standard error.
+fn sample(seed: u64) -> io::Result<ExitCode> {
+    let mut out = BufWriter::new(io::stdout().lock());
+    let tally = saves::lines::write(seed, &mut out)?;
+    out.flush()?;
+    eprint!("{tally}");
+    match &tally.missing()[..] {
+        [] => Ok(ExitCode::SUCCESS),
+        missing => Err(io::Error::other(format!("too few: {}", missing.join(", ")))),
+    }
+}
+
+fn lines(seed: u64, buffer: u64) -> io::Result<ExitCode> {
+    let mut out = BufWriter::new(io::stdout().lock());
+    saves::lines::write_one(seed, buffer, &mut out)?;
+    out.flush()?;
+    Ok(ExitCode::SUCCESS)
 }
 
 /// What was compared, on standard output.
