@@ -12,6 +12,7 @@ use saves::{Model, RIGHT};
 const USAGE: &str = "\
 usage: saves sample [SEED]         a fixed sample; seed 1 if left out
        saves draw SEED COUNT       what so many random buffers hold
+       saves compare SEED COUNT    so many random buffers, each with its calls, against the archive
        saves slips SEED COUNT      each slip, until it is found
        saves lines SEED NUMBER     one of the random buffers, as lines of the sample";
 
@@ -29,6 +30,7 @@ fn run(args: &[&str]) -> io::Result<ExitCode> {
         ["sample"] => sample(1),
         ["sample", seed] => sample(number(seed)?),
         ["draw", seed, count] => against(&mut { RIGHT }, number(seed)?, number(count)?),
+        ["compare", seed, count] => with_archive(number(seed)?, number(count)?),
         ["slips", seed, count] => slips(number(seed)?, number(count)?),
         ["lines", seed, buffer] => lines(number(seed)?, number(buffer)?),
         _ => Err(io::Error::other(USAGE)),
@@ -74,6 +76,18 @@ fn against(rival: &mut dyn saves::world::Engine, seed: u64, count: u64) -> io::R
             Ok(ExitCode::FAILURE)
         }
     }
+}
+
+#[cfg(all(archive, feature = "saves_archive"))]
+fn with_archive(seed: u64, count: u64) -> io::Result<ExitCode> {
+    against(&mut saves::archive::Archive, seed, count)
+}
+
+#[cfg(not(all(archive, feature = "saves_archive")))]
+fn with_archive(_: u64, _: u64) -> io::Result<ExitCode> {
+    let what = "built without an archive: name one in PUDVIREZ_ARCHIVE and build again \
+                with --features saves_archive";
+    Err(io::Error::other(what))
 }
 
 /// After how many calls each slip is found, where the documents are held against it.
