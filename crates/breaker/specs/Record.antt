@@ -142,5 +142,9 @@ itemsFor (Windowed limit period) = Times
 abbrev pub itemsOf : Config → Items
 itemsOf c = itemsFor (policyOf c)
 
+-- what is sound of the record alone
+abbrev pub soundRecord : Breaker → Bool
+soundRecord b = soundConfig (b .config) && soundShared (b .config) (b .shared)
+
 unfoldable pub sound : Breaker → List ℕ → Bool
 sound b s = soundConfig (b .config) && (soundShared (b .config) (b .shared) && soundList (itemsOf (b .config)) (b .shared .len) s)

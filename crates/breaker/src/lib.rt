@@ -1,7 +1,7 @@
 // The breaker record, its tickets and replies, and the answers of its calls, by value (circuit.rs of the Rust).
 // The rules and the statement on finishing orders stand in specs/, what is proved of them in proofs/.
 ghost use mathlib.Core.Path.{_≡_};
-ghost use Rattle.breaker.specs.Record.{sound};
+ghost use Rattle.breaker.specs.Record.{sound, soundRecord};
 ghost use Rattle.breaker.specs.Calls.{guarded};
 
 mod calls;
@@ -167,13 +167,12 @@ pub struct Reserving {
     pub breaker: Breaker,
 }
 
-// Whether a record and its list are sound.
-// Ruled out: one that leaves out the places past the list; one that takes settings that are not normalised.
-pub fn is_sound(breaker: Breaker, list: &[u64]) -> bool
-    ensures { λ r. ⌜ r ≡ sound breaker (now (list .entry)) ⌝ }
+// Whether the record alone is sound.
+// Ruled out: settings that are not normalised; a count above 0 outside HalfOpen.
+pub fn sound_record(breaker: Breaker) -> bool
+    ensures { λ r. ⌜ r ≡ soundRecord breaker ⌝ }
 {
     let c = breaker.config;
-    let h = breaker.shared;
     if !sound_policy(c) {
         return false;
     }
@@ -183,10 +182,18 @@ pub fn is_sound(breaker: Breaker, list: &[u64]) -> bool
     if c.trials < c.required {
         return false;
     }
-    if !sound_shared(c, h) {
+    sound_shared(c, breaker.shared)
+}
+
+// Whether a record and its list are sound.
+// Ruled out: one that leaves out the places past the list; one that leaves out the record.
+pub fn is_sound(breaker: Breaker, list: &[u64]) -> bool
+    ensures { λ r. ⌜ r ≡ sound breaker (now (list .entry)) ⌝ }
+{
+    if !sound_record(breaker) {
         return false;
     }
-    history::sound_list(list, h.len, items_of(c))
+    history::sound_list(list, breaker.shared.len, items_of(breaker.config))
 }
 
 // The tests before every call but a build: 3, then 4.

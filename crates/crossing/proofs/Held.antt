@@ -8,7 +8,7 @@ use lib.ListN.{length}
 use Rattle.error.specs.Choice.{if_then_else_}
 use Rattle.error.specs.Told.{refused}
 use Rattle.error.specs.declared.Refusal.{Refusal}
-use Rattle.error.specs.declared.Refusal.the-variants.{Time, Limit, Storage, Unsound, Full, Turn}
+use Rattle.error.specs.declared.Refusal.the-variants.{Time, Limit, Storage, Unsound, Full, Turn, Damaged, Version, Name}
 use Rattle.error.proofs.Choice.{flag-bit, if-cases}
 use Rattle.breaker.specs.declared.Breaker.{Breaker}
 use Rattle.breaker.specs.Record.{settings, state, sound}
@@ -60,6 +60,9 @@ module _ (handed : PlainPending) where
     refused-held Unsound = refl
     refused-held Full = refl
     refused-held Turn = refl
+    refused-held Damaged = refl
+    refused-held Version = refl
+    refused-held Name = refl
 
     begins-held : (w : Wait) (x : Admitted) → StartHeld (Waits.begins w x b s p)
     begins-held w (granted t next) = plain-back (Waits.pending w t)

@@ -60,7 +60,7 @@ droppedWidth n v = if eqb n 0 then 1 else 0
 pub begun-back : (a : Begun) (n : ℕ) → restored begunWidth (packedWait (begunTold a) n) ≡ begunTold a
 begun-back Begun·is.Waits n = refl
 begun-back (Begun·is.Shed d) n = refl
-begun-back (Begun·is.Refused r) n = refused-back (λ k. restored begunWidth (packedWait (tell k []) n)) r refl refl refl refl refl refl
+begun-back (Begun·is.Refused r) n = refused-back (λ k. restored begunWidth (packedWait (tell k []) n)) r refl refl refl refl refl refl refl refl refl
 
 pub completed-back : (e : Completed) (n : ℕ) → restored waitWidth (packedWait (completedTold e) n) ≡ completedTold e
 completed-back (Completed·is.Admitted t) n = refl
@@ -74,12 +74,12 @@ awaited-back (Awaited·is.Next (SleepUnlessResumed nanos epoch)) n = refl
 awaited-back (Awaited·is.Next Yield) n = refl
 awaited-back (Awaited·is.Next LookAgain) n = refl
 awaited-back (Awaited·is.Ends e) n = completed-back e n
-awaited-back (Awaited·is.Refused r) n = refused-back (λ k. restored waitWidth (packedWait (tell k []) n)) r refl refl refl refl refl refl
+awaited-back (Awaited·is.Refused r) n = refused-back (λ k. restored waitWidth (packedWait (tell k []) n)) r refl refl refl refl refl refl refl refl refl
 
 pub course-back : (a : Course) (n : ℕ) → restored waitWidth (packedWait (courseTold a) n) ≡ courseTold a
 course-back (Course·is.Ends e) n = completed-back e n
 course-back Course·is.Unfinished n = refl
-course-back (Course·is.Refused r) n = refused-back (λ k. restored waitWidth (packedWait (tell k []) n)) r refl refl refl refl refl refl
+course-back (Course·is.Refused r) n = refused-back (λ k. restored waitWidth (packedWait (tell k []) n)) r refl refl refl refl refl refl refl refl refl
 
 -- a run's course and its count, both: what two runs are told is equal only if these are
 pub run-known : (a b : Course) (m n : ℕ) → packedWait (courseTold a) m ≡ packedWait (courseTold b) n → (courseTold a ≡ courseTold b) × (m ≡ n)
@@ -87,4 +87,4 @@ run-known a b m n = known-by waitWidth (courseTold a) (courseTold b) m n (course
 
 pub dropped-back : (a : Dropped) (n : ℕ) → restored droppedWidth (packedWait (droppedTold a) n) ≡ droppedTold a
 dropped-back (Dropped·is.GiveBack back) n = refl
-dropped-back (Dropped·is.Refused r) n = refused-back (λ k. restored droppedWidth (packedWait (tell k []) n)) r refl refl refl refl refl refl
+dropped-back (Dropped·is.Refused r) n = refused-back (λ k. restored droppedWidth (packedWait (tell k []) n)) r refl refl refl refl refl refl refl refl refl

@@ -7,7 +7,7 @@ use lib.Dec.{eqb, leb}
 use lib.ListN.{getD}
 use borrow.Author.Tests.{eq-eqb}
 use Rattle.error.specs.declared.Refusal.{Refusal}
-use Rattle.error.specs.declared.Refusal.the-variants.{Time, Limit, Storage, Unsound, Full, Turn}
+use Rattle.error.specs.declared.Refusal.the-variants.{Time, Limit, Storage, Unsound, Full, Turn, Damaged, Version, Name}
 use Rattle.error.specs.Choice.{if_then_else_}
 use Rattle.error.specs.Told.{Told, tell, numberOf, refused}
 
@@ -18,7 +18,10 @@ named n =
     else if eqb n 3 then Storage
     else if eqb n 4 then Unsound
     else if eqb n 5 then Full
-    else Turn
+    else if eqb n 11 then Turn
+    else if eqb n 13 then Damaged
+    else if eqb n 14 then Version
+    else Name
 
 pub named-number : (r : Refusal) → named (numberOf r) ≡ r
 named-number Time = refl
@@ -27,6 +30,9 @@ named-number Storage = refl
 named-number Unsound = refl
 named-number Full = refl
 named-number Turn = refl
+named-number Damaged = refl
+named-number Version = refl
+named-number Name = refl
 
 -- 0 is the number of no refusal
 pub number-not-0 : (r : Refusal) → eqb (numberOf r) 0 ≡ false
@@ -36,6 +42,9 @@ number-not-0 Storage = refl
 number-not-0 Unsound = refl
 number-not-0 Full = refl
 number-not-0 Turn = refl
+number-not-0 Damaged = refl
+number-not-0 Version = refl
+number-not-0 Name = refl
 
 -- nor is 6
 pub number-not-6 : (r : Refusal) → eqb (numberOf r) 6 ≡ false
@@ -45,6 +54,9 @@ number-not-6 Storage = refl
 number-not-6 Unsound = refl
 number-not-6 Full = refl
 number-not-6 Turn = refl
+number-not-6 Damaged = refl
+number-not-6 Version = refl
+number-not-6 Name = refl
 
 pub refused-one : (a b : Refusal) → refused a ≡ refused b → a ≡ b
 refused-one a b e = sym (named-number a) ∙ ap (λ (t : Told). named (t .number)) e ∙ named-number b
@@ -75,6 +87,9 @@ read-refused good more refusal Storage = refl
 read-refused good more refusal Unsound = refl
 read-refused good more refusal Full = refl
 read-refused good more refusal Turn = refl
+read-refused good more refusal Damaged = refl
+read-refused good more refusal Version = refl
+read-refused good more refusal Name = refl
 
 -- a value, or 0 where there is none
 abbrev pub at : List ℕ → ℕ → ℕ

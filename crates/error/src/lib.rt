@@ -1,4 +1,4 @@
-// Why a call is refused: rows 1 to 5 and 11 of document 01's table, which the Rust doesn't have.
+// Why a call is refused: rows 1 to 5, 11 and 13 to 15 of the table, which the Rust doesn't have.
 ghost use mathlib.Core.Path.{_≡_};
 ghost use Rattle.error.specs.Told.{numberOf};
 
@@ -16,6 +16,12 @@ pub enum Refusal {
     Full,
     // 11: a reply kind other than 1 to 3, or a wait that has ended
     Turn,
+    // 13: a buffer of saves that is none: its sizes, a sum, a header, a body, a zero byte, a name twice, a record that is not sound
+    Damaged,
+    // 14: a block of an unknown version
+    Version,
+    // 15: a name that is not one, is already there or is absent, or blocks that do not fit
+    Name,
 }
 
 // The number of a refusal in document 01's table.
@@ -30,5 +36,8 @@ pub fn number(refusal: Refusal) -> u32
         Refusal::Unsound => 4,
         Refusal::Full => 5,
         Refusal::Turn => 11,
+        Refusal::Damaged => 13,
+        Refusal::Version => 14,
+        Refusal::Name => 15,
     }
 }

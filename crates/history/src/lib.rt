@@ -67,7 +67,8 @@ fn bits_from(list: &[u64], n: usize) -> u64
 }
 
 // Whether a list of the kind may have this length.
-fn may_have(items: Items, len: u32) -> bool
+// Ruled out: a window of 4,097 places; a list of Consecutive that is not empty.
+pub fn may_have(items: Items, len: u32) -> bool
     ensures { λ r. ⌜ r ≡ fits items len ⌝ }
 {
     match items {

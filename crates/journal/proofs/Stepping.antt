@@ -5,7 +5,7 @@ use mathlib.Core.Bool.{true, false}
 use mathlib.Core.List.{List, _∷_}
 use Rattle.error.specs.Told.{Told, refused, numberOf}
 use Rattle.error.specs.declared.Refusal.{Refusal}
-use Rattle.error.specs.declared.Refusal.the-variants.{Time, Limit, Storage, Unsound, Full, Turn}
+use Rattle.error.specs.declared.Refusal.the-variants.{Time, Limit, Storage, Unsound, Full, Turn, Damaged, Version, Name}
 use Rattle.trip.specs.declared.Config.{Config}
 use Rattle.breaker.specs.declared.Breaker.{Breaker}
 use Rattle.breaker.specs.Record.{State, settings, state, sound}
@@ -27,6 +27,9 @@ refused-line Storage st = refl
 refused-line Unsound st = refl
 refused-line Full st = refl
 refused-line Turn st = refl
+refused-line Damaged st = refl
+refused-line Version st = refl
+refused-line Name st = refl
 
 -- what a call left, told on as the step's
 step-of : (call : Call) (b : Breaker) (s s' : List ℕ) (t : Told) (b' : Breaker) (r : Stepped) → after t b' s' ≡ onSound (called call) b s
