@@ -1,4 +1,4 @@
--- Laws of a runOf: how it is written, and that it is known by its blocks. Assumes nothing.
+-- Laws of a run: how it is written, and that it is known by its blocks. Assumes nothing.
 use mathlib.Core.Path.{_≡_, refl, sym, ap, _∙_}
 use mathlib.Core.Bool.{Bool, true, false, _&&_}
 use mathlib.Core.List.{List, [], _∷_, _++_, append-assoc, append-nil}
@@ -44,7 +44,7 @@ run-end v n i next body out h = let k : n - i ≡ zero = omega arith in rw k (sy
 pub block-back : (out blk : List ℕ) (next : ℕ) → length blk ≡ 512 → take next out ++ (blk ++ drop (next + 512 - next) (drop next out)) ≡ written next blk out
 block-back out blk next e = written-mid out blk next (next + 512 - next) (e ∙ (omega arith))
 
--- ---- reading: the blocks of a runOf
+-- ---- reading: the blocks of a run
 pub length-blocks : (k v n i : ℕ) (body : List ℕ) → length (blocksFrom v n i k body) ≡ 512 * k
 unfolding blocksFrom
 length-blocks zero v n i body = refl
@@ -87,7 +87,7 @@ blocks-more (suc i) v n j xs part h l =
     rw (e, t, d, w, blocks-more i v n (j + 1) (drop 496 xs) part (omega (arith, length-drop 496 xs)) l)
     (sym (append-assoc (block v j n (take 496 xs)) (blocksFrom v n (j + 1) i (drop 496 xs)) (block v (j + 1 + i) n part)))
 
--- ---- what a block of a runOf may hold
+-- ---- what a block of a run may hold
 pub may-hold : (i n u : ℕ) → i < n → 0 < u → u ≤ 496 → (i + 1 < n → u ≡ 496) → mayHold i n u ≡ true
 unfolding mayHold
 may-hold i n u h s m f = rw (lt-ltb i n h) (go (ltb (i + 1) n) refl)
@@ -96,7 +96,7 @@ may-hold i n u h s m f = rw (lt-ltb i n h) (go (ltb (i + 1) n) refl)
     go true e = eq-eqb u 496 (f (ltb-true (i + 1) n e))
     go false e = rw (lt-ltb 0 u s, le-leb u 496 m)
 
--- ---- what a runOf at a place tells
+-- ---- what a run at a place tells
 pub record Told (s : List ℕ) (at w m : ℕ) : Type 0 where
   pub some : 0 < m
   pub most : m ≤ 128
@@ -149,7 +149,7 @@ told-header s at w m k h t = go (t .part 0 (t .some))
         let r : Reads (block w 0 m p) w 0 m (length p) = reads-there w 0 m p (may-some 0 m (length p) y .2) h (omega arith) (omega arith) q in
         rw f (reads-version (block w 0 m p) w 0 m (length p) r, reads-count (block w 0 m p) w 0 m (length p) r)
 
--- a block that is none of the runOf's
+-- a block that is none of the run's
 pub told-not : (s : List ℕ) (at w m v n i : ℕ) → Told s at w m → w ≡ v → m ≡ n → i < n → UsedIn (take 512 (drop (at + 512 * i) s)) v i n 0 → ⊥
 told-not s at w m v n i t ev en h x = go (t .part i (omega arith))
   where

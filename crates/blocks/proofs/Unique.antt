@@ -1,11 +1,11 @@
--- A runOf is known by its bytes: what checks was written from one body of one version, and what follows it is one. Assumes nothing.
+-- A run is known by its bytes: what checks was written from one body of one version, and what follows it is one. Assumes nothing.
 use mathlib.Core.Path.{_≡_, refl, sym, ap, _∙_}
 use mathlib.Core.List.{List, [], _∷_, _++_, append-assoc}
 use Prim.Native.Nat.{ℕ, zero, suc, _+_, _-_, _*_, _/_, _<_, _≤_}
 use native.Mathlib.Nat.{add-zero}
 use native.Mathlib.Omega.{arith}
 use lib.ListN.{length, take, drop, replicate, length-append, length-take, length-drop, take-append-drop, drop-of-length-le}
-use lib.Seq.{take-at, drop-at, take-all, take-take, length-take-le}
+use lib.Seq.{take-at, drop-at, take-all, length-take-le}
 use Rattle.bytes.specs.Bytes.{bytes, Bytes}
 use Rattle.blocks.specs.Block.{sumFrom, headed, filled, block}
 use Rattle.blocks.specs.Run.{blocksFrom, countOf, runOf, Body}
@@ -77,7 +77,7 @@ blocks-one (suc k) v n i b c r t hb hc kb kc hv hn hi e =
     let s = blocks-one k v n (i + 1) (drop 496 b) (drop 496 c) r t (omega (arith, length-drop 496 b)) (omega (arith, length-drop 496 c)) (bytes-drop 496 b kb) (bytes-drop 496 c kc) hv hn (omega arith) d in
     (sym (take-append-drop 496 b) ∙ ap (λ (z : List ℕ). z ++ drop 496 b) p ∙ ap (λ (z : List ℕ). take 496 c ++ z) (s .0) ∙ take-append-drop 496 c, s .1)
 
--- ---- a runOf is known by its bytes, whatever follows it
+-- ---- a run is known by its bytes, whatever follows it
 pub run-one : (v w : ℕ) (b c r t : List ℕ) → Body v b → Body w c → runOf v b ++ r ≡ runOf w c ++ t → (v ≡ w) × (b ≡ c) × (r ≡ t)
 unfolding runOf
 run-one v w b c r t f g e =
@@ -97,16 +97,3 @@ run-one v w b c r t f g e =
     let h : blocksFrom w m 0 m c ++ t ≡ blocksFrom v n 0 n c ++ t = ap (λ (z : ℕ). blocksFrom z m 0 m c ++ t) (sym ev) ∙ ap (λ (z : ℕ). blocksFrom v z 0 z c ++ t) (sym en) in
     let s = blocks-one n v n 0 b c r t (omega arith) (omega (arith, en)) (f .bytes) (g .bytes) (f .twoBytes) (omega arith) (omega arith) (e ∙ h) in
     (ev, s .0, s .1)
-
--- a body's first 8 bytes, the name, lie in the first block of its runOf
-pub name-first : (v : ℕ) (b r : List ℕ) → Body v b → 8 ≤ length b → take 8 (drop 8 (take 512 (runOf v b ++ r))) ≡ take 8 b
-unfolding runOf
-name-first v b r f h =
-    let n = countOf (length b) in
-    let p = take 496 b in
-    let lp : 8 ≤ length p = omega (arith, length-take 496 b) in
-    let x : take 512 (blocksFrom v n 0 n b ++ r) ≡ block v 0 n p = blocks-first n v n 0 b r (omega arith) in
-    ap (λ (z : List ℕ). take 8 (drop 8 z)) x
-    ∙ sym (take-take 8 (length p) (drop 8 (block v 0 n p)) lp)
-    ∙ ap (λ (z : List ℕ). take 8 z) (block-part v 0 n p)
-    ∙ take-take 8 496 b (omega arith)
