@@ -195,8 +195,15 @@ module _ (name : List ℕ) (b : Breaker) (s out : List ℕ) where
   pub save-room : length name ≡ 8 → b .shared .len ≤ length s → length out < sizeOf b → out ≡ putSave name b s out
   save-room n l r = simp (eq-eqb (length name) 8 n, le-leb (b .shared .len) (length s) l, lt-leb (sizeOf b) (length out) r)
 
-  save-fits : length name ≡ 8 → b .shared .len ≤ length s → sizeOf b ≤ length out → written 0 (bodyOf (saveOf name b s)) out ≡ putSave name b s out
+  pub save-fits : length name ≡ 8 → b .shared .len ≤ length s → sizeOf b ≤ length out → written 0 (bodyOf (saveOf name b s)) out ≡ putSave name b s out
   save-fits n l r = simp (eq-eqb (length name) 8 n, le-leb (b .shared .len) (length s) l, le-leb (sizeOf b) (length out) r)
+
+  pub save-length : length name ≡ 8 → b .shared .len ≤ length s → length (bodyOf (saveOf name b s)) ≡ sizeOf b
+  save-length n l =
+      let li : length (take (b .shared .len) s) ≡ b .shared .len = length-take-le (b .shared .len) s l in
+      let lr : length (encoded widths (fieldsOf b)) ≡ 78 = length-encoded-any widths (fieldsOf b) refl ∙ room-widths in
+      let le : length (take (b .shared .len) s) * widthOf b ≡ b .shared .len * widthOf b = ap (λ (m : ℕ). m * widthOf b) li in
+      simp (length-append, n, lr, length-encoded-same (widthOf b) (take (b .shared .len) s), le, room-widths) (omega arith)
 
   pub save-by : (a c d : List ℕ) → length name ≡ 8 → b .shared .len ≤ length s → sizeOf b ≤ length out → a ≡ putAt 0 name out → c ≡ written 8 (encoded widths (fieldsOf b)) a
       → d ≡ putItems 86 (widthOf b) (take (b .shared .len) s) c → d ≡ putSave name b s out

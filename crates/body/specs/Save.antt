@@ -13,8 +13,8 @@ use Rattle.history.specs.Items.{allBelow, padded, view}
 use Rattle.breaker.specs.declared.Breaker.{Breaker}
 use Rattle.breaker.specs.Record.{recordFields, itemsOf, sound}
 use Rattle.bytes.specs.Bytes.{encoded, room, written, Fit}
-use Rattle.body.specs.declared.Found.{Found}
-use Rattle.body.specs.declared.Found.the-variants.{Saved, Nothing}
+use Rattle.body.specs.declared.ReadAs.{ReadAs}
+use Rattle.body.specs.declared.ReadAs.the-variants.{Saved, Nothing}
 
 pub record Save : Type 0 where
   pub name : List ℕ
@@ -72,6 +72,6 @@ putSave name b s out =
     else out
 
 -- what is read of bytes: the breaker of the save that they are the body of, or that they are none, by writing alone
-abbrev pub BodyRead : List ℕ → Found → Type 0
+abbrev pub BodyRead : List ℕ → ReadAs → Type 0
 BodyRead bs (Saved b) = (s : Save) × Good s × (bs ≡ bodyOf s) × (s .breaker ≡ b)
 BodyRead bs Nothing = (s : Save) → Good s → bs ≡ bodyOf s → ⊥

@@ -18,7 +18,7 @@ const FIELDS: usize = 16;
 const RECORD_END: usize = 86;
 
 // What is read of bytes: the breaker of the save that they are the body of, or that they are none.
-pub enum Found {
+pub enum ReadAs {
     Saved(Breaker),
     Nothing,
 }

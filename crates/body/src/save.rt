@@ -7,9 +7,9 @@ ghost use lib.ListN.{length};
 ghost use Rattle.bytes.specs.Bytes.{itemsAt, putItems};
 ghost use Rattle.history.specs.Items.{allBelow, areItems, padded};
 ghost use Rattle.body.specs.Save.{BodyRead, bodyOf, Good, isName, putSave, Save, sizeOf, widthOf};
-use crate::Found;
 use crate::NAME;
 use crate::RECORD_END;
+use crate::ReadAs;
 use crate::record::put_record;
 use crate::record::record_at;
 use breaker::Breaker;
@@ -113,30 +113,30 @@ fn are_items(items: Items, s: &[u8]) -> bool
 
 // The breaker that bytes are the body of.
 // Ruled out: a name with a byte of 128; an outcome of 2; a list that is cut.
-pub fn read(s: &[u8]) -> Found
+pub fn read(s: &[u8]) -> ReadAs
     ensures { λ r. ⌜ BodyRead (now (s .entry)) r ⌝ }
 {
     if s.len() < RECORD_END {
-        return Found::Nothing;
+        return ReadAs::Nothing;
     }
     if bits_of(&s[..NAME]) >= 128 {
-        return Found::Nothing;
+        return ReadAs::Nothing;
     }
     let b = record_at(s, NAME);
     if !sound_record(b) {
-        return Found::Nothing;
+        return ReadAs::Nothing;
     }
     let items = items_of(b.config);
     if !may_have(items, b.shared.len) {
-        return Found::Nothing;
+        return ReadAs::Nothing;
     }
     if s.len() != size(b) {
-        return Found::Nothing;
+        return ReadAs::Nothing;
     }
     if are_items(items, &s[RECORD_END..]) {
-        return Found::Saved(b);
+        return ReadAs::Saved(b);
     }
-    Found::Nothing
+    ReadAs::Nothing
 }
 
 fn get_list(s: &[u8], b: Breaker, items: &mut [u64])

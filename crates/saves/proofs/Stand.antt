@@ -15,7 +15,7 @@ use Rattle.blocks.specs.declared.Found.the-variants as Found·is
 use Rattle.blocks.specs.Run.{countOf, runOf, Body, bodyIn, putBody, Finds}
 use Rattle.blocks.proofs.Joins.{length-run, body-in}
 use Rattle.blocks.proofs.Unique.{run-one}
-use Rattle.body.specs.declared.Found.the-variants as Read·is
+use Rattle.body.specs.declared.ReadAs.the-variants as Read·is
 use Rattle.body.specs.Save.{Save, Good, widths, fieldsOf, widthOf, bodyOf, sizeOf, BodyRead}
 use Rattle.body.proofs.Records.{room-widths}
 use Rattle.body.proofs.Saves.{name-ascii, body-name, body-length, body-least, good-most, width-le}

@@ -72,8 +72,8 @@ fn save_at(s: &[u8], body: &mut [u8]) -> Stands
     join(s, size, body);
     let part = &body[..size];
     match read(part) {
-        body::Found::Saved(_) => Stands::Save(number_at(part, 0, 8), size),
-        body::Found::Nothing => Stands::Nothing,
+        body::ReadAs::Saved(_) => Stands::Save(number_at(part, 0, 8), size),
+        body::ReadAs::Nothing => Stands::Nothing,
     }
 }
 

@@ -12,7 +12,7 @@ use Rattle.blocks.specs.declared.Found.{Found}
 use Rattle.blocks.specs.declared.Found.the-variants.{Run}
 use Rattle.blocks.specs.Run.{every, Finds, bodyIn}
 use Rattle.body.specs.Save.{bodyOf, BodyRead}
-use Rattle.body.specs.declared.Found as Read
+use Rattle.body.specs.declared.ReadAs as Read
 use Rattle.body.proofs.Saves.{body-least}
 use Rattle.saves.proofs.Stand.{good-body, found-long, stands-version, stands-long, stands-body, joined-body, stands-save}
 use Rattle.saves.proofs.buffer.save_at.Statement.{statement}
@@ -91,7 +91,7 @@ returns-4 c =
     let c10 = c9 .before in
     let c12 = c10 .before .before in
     let c17 = c12 .before .before .before .before .before in
-    (let r = subst (λ (r : Read.Found). BodyRead (take (c12 .found .given .0 .1 .0) (c7 .join .last .1 .1 .0)) r) (c .before .enum-told2 .given .1) (c3 .read .ensures) in let l = length-take-le (c12 .found .given .0 .1 .0) (c7 .join .last .1 .1 .0) (omega (arith, c7 .join .kept .1 .1 .0, c17 .pre, c9 .if2 .left)) in (omega (arith, body-least (r .0) (r .1), ap length (r .2), l), c9 .if2 .left), λ ok. stands-save (c17 .args .s .now) (take (c12 .found .given .0 .1 .0) (c7 .join .last .1 .1 .0)) (c12 .found .given .0 .0) (c12 .found .given .0 .1 .0) (c .number-at .result) (finds (c12) ok) (c .before .enum-told2 .given .0 .0) (c10 .if1 .left) (body-is (c4) ok) (subst (λ (r : Read.Found). BodyRead (take (c12 .found .given .0 .1 .0) (c7 .join .last .1 .1 .0)) r) (c .before .enum-told2 .given .1) (c3 .read .ensures)) (c .number-at .ensures))
+    (let r = subst (λ (r : Read.ReadAs). BodyRead (take (c12 .found .given .0 .1 .0) (c7 .join .last .1 .1 .0)) r) (c .before .enum-told2 .given .1) (c3 .read .ensures) in let l = length-take-le (c12 .found .given .0 .1 .0) (c7 .join .last .1 .1 .0) (omega (arith, c7 .join .kept .1 .1 .0, c17 .pre, c9 .if2 .left)) in (omega (arith, body-least (r .0) (r .1), ap length (r .2), l), c9 .if2 .left), λ ok. stands-save (c17 .args .s .now) (take (c12 .found .given .0 .1 .0) (c7 .join .last .1 .1 .0)) (c12 .found .given .0 .0) (c12 .found .given .0 .1 .0) (c .number-at .result) (finds (c12) ok) (c .before .enum-told2 .given .0 .0) (c10 .if1 .left) (body-is (c4) ok) (subst (λ (r : Read.ReadAs). BodyRead (take (c12 .found .given .0 .1 .0) (c7 .join .last .1 .1 .0)) r) (c .before .enum-told2 .given .1) (c3 .read .ensures)) (c .number-at .ensures))
 
 same-length-2 : tie.Need-same-length-2
 same-length-2 c = search needs
@@ -102,7 +102,7 @@ returns-5 c =
     let c6 = c3 .before .before .before in
     let c11 = c6 .before .before .before .before .before in
     let c16 = c11 .before .before .before .before .before in
-    (tt, λ ok x rest g e. subst (λ (r : Read.Found). BodyRead (take (c11 .found .given .0 .1 .0) (c6 .join .last .1 .1 .0)) r) (c .enum-told3 .given .1) (c .before .before .read .ensures) x g (body-is (c3) ok ∙ stands-body (c16 .args .s .now) (c11 .found .given .0 .0) (c11 .found .given .0 .1 .0) (finds (c11) ok) x rest g e))
+    (tt, λ ok x rest g e. subst (λ (r : Read.ReadAs). BodyRead (take (c11 .found .given .0 .1 .0) (c6 .join .last .1 .1 .0)) r) (c .enum-told3 .given .1) (c .before .before .read .ensures) x g (body-is (c3) ok ∙ stands-body (c16 .args .s .now) (c11 .found .given .0 .0) (c11 .found .given .0 .1 .0) (finds (c11) ok) x rest g e))
 
 pub save-at-spec : {M : Type 1} → statement M
 save-at-spec =
