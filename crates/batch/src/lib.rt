@@ -1,4 +1,6 @@
 // A sequence of finishing calls on one breaker, which is tested once.
+#![tactic(auto)]
+
 ghost use Rattle.std.specs.Prelude.{◌≡◌, true, length};
 ghost use Rattle.breaker.specs.Record.{HalfOpen, sound};
 ghost use Rattle.breaker.specs.Answers.{finished_told};

@@ -7,9 +7,9 @@ use native.Mathlib.Omega.{arith}
 use lib.ListN.{length, take, drop, length-append, length-drop, take-append-drop, drop_of_length-le}
 use borrow.Author.Tests.{le-leb, lt-leb}
 use lib.Seq.{take-length, drop_at, take-take, take-append-le, take-append-add, drop-drop, length-take-le, take-add}
-use Rattle.bytes.specs.Bytes.{Bytes, written}
-use Rattle.bytes.proofs.Little.{bytes-append, bytes_take, bytes_drop}
-use Rattle.bytes.proofs.Written.{written_after, written-nil, put_in, put-out}
+use Rattle.le_bytes.specs.Bytes.{Bytes, written}
+use Rattle.le_bytes.proofs.Little.{bytes-append, bytes_take, bytes_drop}
+use Rattle.le_bytes.proofs.Written.{written_after, written-nil, put_in, put-out}
 use Rattle.blocks.specs.Run.{count_of, run_of, Body, joined, body_in, put_run, put_body, Finds}
 use Rattle.blocks.specs.declared.Found.TheVariants.{Run}
 use Rattle.blocks.proofs.Runs.{length-blocks}

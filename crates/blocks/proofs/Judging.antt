@@ -11,7 +11,7 @@ use Rattle.error.specs.Choice.{if◌then◌else◌}
 use Rattle.error.specs.declared.Refusal.{Refusal}
 use Rattle.error.specs.declared.Refusal.TheVariants.{Damaged, Version}
 use Rattle.error.proofs.Choice.{and_split, if-cases}
-use Rattle.bytes.specs.Bytes.{Bytes, number}
+use Rattle.le_bytes.specs.Bytes.{Bytes, number}
 use Rattle.blocks.specs.declared.Judged.{Judged}
 use Rattle.blocks.specs.declared.Judged.TheVariants.{Passes, Refused}
 use Rattle.blocks.specs.Block.{may_hold, zeros, version_in, index_in, count_in, used_in, summed, versioned, proper, judged_block, used_body}

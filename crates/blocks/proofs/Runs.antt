@@ -9,13 +9,13 @@ use lib.ListN.{length, get_or, take, drop, length-append, length-take, length-dr
 use lib.Seq.{take_at, drop_at, take_all, take-append-le, drop-append-le, drop-drop, length-take-le, take-add}
 use lib.Dec.{ltb, leb, eqb}
 use borrow.Author.Tests.{lt-ltb, le-ltb, le-leb, eq-eqb, ltb-true, leb-true, leb-false}
-use Rattle.bytes.specs.Bytes.{number, Bytes}
+use Rattle.le_bytes.specs.Bytes.{number, Bytes}
 use Rattle.error.specs.Choice.{if◌then◌else◌}
-use Rattle.bytes.specs.Bytes.{written}
+use Rattle.le_bytes.specs.Bytes.{written}
 use Rattle.blocks.specs.Block.{block, may_hold}
 use Rattle.blocks.specs.Run.{blocks_from, count_of, run_of, Body, UsedIn}
-use Rattle.bytes.proofs.Written.{written_after, written-nil, written-mid}
-use Rattle.bytes.proofs.Little.{bytes_take, bytes_drop}
+use Rattle.le_bytes.proofs.Written.{written_after, written-nil, written-mid}
+use Rattle.le_bytes.proofs.Little.{bytes_take, bytes_drop}
 use Rattle.blocks.proofs.Blocks.{Reads, length-block, may-some, reads-there, reads-version, reads-count, used-most}
 
 -- ---- writing: a turn

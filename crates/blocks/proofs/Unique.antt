@@ -6,11 +6,11 @@ use native.Mathlib.Nat.{add-zero}
 use native.Mathlib.Omega.{arith}
 use lib.ListN.{length, take, drop, replicate, length-append, length-take, length-drop, take-append-drop, drop_of_length-le}
 use lib.Seq.{take_at, drop_at, take_all, length-take-le}
-use Rattle.bytes.specs.Bytes.{bytes, Bytes}
+use Rattle.le_bytes.specs.Bytes.{bytes, Bytes}
 use Rattle.blocks.specs.Block.{sum_from, headed, filled, block}
 use Rattle.blocks.specs.Run.{blocks_from, count_of, run_of, Body}
-use Rattle.bytes.proofs.Little.{bytes_take, bytes_drop, bytes-bytes, bytes-append}
-use Rattle.bytes.proofs.Widths.{bytes-encoded}
+use Rattle.le_bytes.proofs.Little.{bytes_take, bytes_drop, bytes-bytes, bytes-append}
+use Rattle.le_bytes.proofs.Widths.{bytes-encoded}
 use Rattle.blocks.proofs.Runs.{blocks-first}
 use Rattle.blocks.proofs.Blocks.{Reads, length-block, length-headed, reads-there, reads-used, reads-version, reads-count}
 

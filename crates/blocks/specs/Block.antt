@@ -3,7 +3,7 @@ use Rattle.std.specs.Prelude.{ℕ, ◌+◌, ◌-◌, ◌*◌, Bool, true, not, �
 use Rattle.error.specs.Choice.{if◌then◌else◌}
 use Rattle.error.specs.declared.Refusal.{Refusal}
 use Rattle.error.specs.declared.Refusal.TheVariants.{Damaged, Version}
-use Rattle.bytes.specs.Bytes.{bytes, number, encoded}
+use Rattle.le_bytes.specs.Bytes.{bytes, number, encoded}
 
 -- ---- how it is written
 

@@ -1,11 +1,11 @@
 // A block: written, checked, judged.
 ghost use Rattle.std.specs.Prelude.{◌≡◌, true, ◌+◌, ◌≤◌, length, take, drop};
-ghost use Rattle.bytes.specs.Bytes.{number};
+ghost use Rattle.le_bytes.specs.Bytes.{number};
 ghost use Rattle.blocks.specs.Block.{block, judged_block, known, may_hold, proper, summed, sum_from, used_body, used_in, versioned, zeros};
 ghost use Rattle.blocks.specs.declared.Judged.TheVariants.{Passes, Refused};
 
 use crate::{BLOCK, BODY, BODY_AT, Judged, SUM_AT, SUM_OVER};
-use bytes::{copy, number_at, put_number, zero};
+use le_bytes::{copy, number_at, put_number, zero};
 use error::Refusal;
 
 // The sum of byte × (position + 1).

@@ -1,4 +1,6 @@
 // Blocks of 512 bytes with a sum, and runs of them that hold a body of any length. They know nothing of what the body is.
+#![tactic(auto)]
+
 mod block;
 mod passes;
 mod run;
@@ -26,14 +28,14 @@ const MOST_BLOCKS: u16 = 128;
 const LONGEST_BODY: usize = 63488;
 
 // What the check of a block by itself comes to.
-#[derive(Drop)]
+#[derive(Clone, Copy)]
 pub enum Judged {
     Passes,
     Refused(Refusal),
 }
 
 // What stands at the front of bytes: a run of this version with a body of so many bytes, or none.
-#[derive(Drop)]
+#[derive(Clone, Copy)]
 pub enum Found {
     Run(u16, usize),
     Nothing,

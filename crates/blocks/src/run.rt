@@ -1,12 +1,12 @@
 // A run of blocks: written, found, and its body joined.
 ghost use Rattle.std.specs.Prelude.{◌≡◌, true, ◌+◌, ◌*◌, ◌/◌, ◌≤◌, min, length};
-ghost use Rattle.bytes.specs.Bytes.{written};
+ghost use Rattle.le_bytes.specs.Bytes.{written};
 ghost use Rattle.blocks.specs.Block.{summed};
 ghost use Rattle.blocks.specs.Run.{body_in, count_of, every, Finds, put_body, put_run, run_of, UsedIn};
 
 use crate::block::{field, is_proper, write_block};
 use crate::{BLOCK, BODY, BODY_AT, Found, LONGEST_BODY, MOST_BLOCKS};
-use bytes::copy;
+use le_bytes::copy;
 
 // How many blocks a body of so many bytes takes.
 // Ruled out: a block more for a body that fills its last; one less for one that does not.

@@ -6,9 +6,9 @@ use native.Mathlib.Omega.{arith}
 use borrow.Author.Rules.{rules}
 use lib.ListN.{length, get_or, take, drop, drop_of_length-le}
 use Rattle.breaker.specs.declared.Breaker.{Breaker}
-use Rattle.bytes.specs.Bytes.{encoded, decoded, room, Fit, Bytes}
-use Rattle.bytes.proofs.Little.{front}
-use Rattle.bytes.proofs.Widths.{decoded-encoded, encoded-decoded, fit-decoded, length-decoded, fit_length, wider-at}
+use Rattle.le_bytes.specs.Bytes.{encoded, decoded, room, Fit, Bytes}
+use Rattle.le_bytes.proofs.Little.{front}
+use Rattle.le_bytes.proofs.Widths.{decoded-encoded, encoded-decoded, fit-decoded, length-decoded, fit_length, wider-at}
 use Rattle.body.specs.Save.{widths, fields_of}
 use Rattle.body.specs.Record.{breaker_of}
 

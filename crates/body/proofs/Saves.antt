@@ -18,10 +18,10 @@ use Rattle.history.proofs.Sound as List·
 use Rattle.breaker.specs.declared.Breaker.{Breaker}
 use Rattle.breaker.specs.Record.{sound_record, sound_config, sound_shared, items_of, sound}
 use Rattle.breaker.proofs.Record.{sound→, →sound}
-use Rattle.bytes.specs.Bytes.{number, encoded, decoded, room, written, put_at, put_items, items_at, Fit, Bytes}
-use Rattle.bytes.proofs.Written.{put_in, written_from, length-written, items-in}
-use Rattle.bytes.proofs.Little.{bytes_take, bytes_drop}
-use Rattle.bytes.proofs.Widths.{length-encoded, length-encoded-any, length-encoded-same, put-items-in, length-decoded, fit-decoded, decoded-encoded, encoded-decoded, room-same}
+use Rattle.le_bytes.specs.Bytes.{number, encoded, decoded, room, written, put_at, put_items, items_at, Fit, Bytes}
+use Rattle.le_bytes.proofs.Written.{put_in, written_from, length-written, items-in}
+use Rattle.le_bytes.proofs.Little.{bytes_take, bytes_drop}
+use Rattle.le_bytes.proofs.Widths.{length-encoded, length-encoded-any, length-encoded-same, put-items-in, length-decoded, fit-decoded, decoded-encoded, encoded-decoded, room-same}
 use Rattle.body.specs.Save.{Save, Good, is_name, widths, fields_of, width_of, item_width, body_of, size_of, save_of, put_save}
 use Rattle.body.specs.Record.{breaker_of}
 use Rattle.body.proofs.Records.{record-there, record-back, room-widths}

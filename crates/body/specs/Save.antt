@@ -7,7 +7,7 @@ use Rattle.history.specs.declared.Items.TheVariants as ItemsIs
 use Rattle.history.specs.Items.{all_below, padded, view}
 use Rattle.breaker.specs.declared.Breaker.{Breaker}
 use Rattle.breaker.specs.Record.{record_fields, items_of, sound}
-use Rattle.bytes.specs.Bytes.{encoded, room, written, Fit}
+use Rattle.le_bytes.specs.Bytes.{encoded, room, written, Fit}
 use Rattle.body.specs.declared.ReadAs.{ReadAs}
 use Rattle.body.specs.declared.ReadAs.TheVariants.{Saved, Nothing}
 

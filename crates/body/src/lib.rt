@@ -1,4 +1,6 @@
 // A breaker saved under a name, as bytes: the name, the record, the list.
+#![tactic(auto)]
+
 mod record;
 mod save;
 
@@ -14,7 +16,7 @@ const FIELDS: usize = 16;
 const RECORD_END: usize = 86;
 
 // What is read of bytes: the breaker of the save that they are the body of, or that they are none.
-#[derive(Drop)]
+#[derive(Clone, Copy)]
 pub enum ReadAs {
     Saved(Breaker),
     Nothing,

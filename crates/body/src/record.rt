@@ -1,12 +1,12 @@
 // The record's bytes: its numbers in document 01's order, each in its width.
 ghost use Rattle.std.specs.Prelude.{◌≡◌, ℕ, ◌+◌, ◌≤◌, length, get_or, drop};
-ghost use Rattle.bytes.specs.Bytes.{decoded, encoded, room, written, Fit};
+ghost use Rattle.le_bytes.specs.Bytes.{decoded, encoded, room, written, Fit};
 ghost use Rattle.body.specs.Save.{widths, fields_of};
 ghost use Rattle.body.specs.Record.{breaker_of};
 
 use crate::FIELDS;
 use breaker::{Breaker, Counts, Shared};
-use bytes::{number_at, put_number};
+use le_bytes::{number_at, put_number};
 use trip::Config;
 
 fn field_widths() -> [usize; FIELDS]

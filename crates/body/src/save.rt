@@ -1,13 +1,13 @@
 // The body of a save: written, judged and read.
 ghost use Rattle.std.specs.Prelude.{◌≡◌, true, ℕ, ◌^◌, ltb, length};
-ghost use Rattle.bytes.specs.Bytes.{items_at, put_items};
+ghost use Rattle.le_bytes.specs.Bytes.{items_at, put_items};
 ghost use Rattle.history.specs.Items.{all_below, are_items, padded};
 ghost use Rattle.body.specs.Save.{BodyRead, body_of, Good, is_name, put_save, Save, size_of, width_of};
 
 use crate::record::{put_record, record_at};
 use crate::{NAME, RECORD_END, ReadAs};
 use breaker::{Breaker, items_of, sound_record};
-use bytes::{copy, items_at, put_items};
+use le_bytes::{copy, items_at, put_items};
 use history::{Items, MOST_ITEMS, PLACES, may_have};
 
 // The bytes of an item: a time or an outcome.

@@ -1,5 +1,7 @@
 // The breaker record, its tickets and replies, and the answers of its calls, by value (circuit.rs of the Rust).
 // The rules and the statement on finishing orders stand in specs/, what is proved of them in proofs/.
+#![tactic(auto)]
+
 ghost use Rattle.std.specs.Prelude.{◌≡◌};
 ghost use Rattle.breaker.specs.Record.{sound, sound_record};
 ghost use Rattle.breaker.specs.Calls.{guarded};
@@ -23,7 +25,7 @@ pub const OPEN: u8 = 2;
 
 // What is counted in HalfOpen.
 #[repr(C)]
-#[derive(Drop)]
+#[derive(Clone, Copy)]
 pub struct Counts {
     // trials that are out
     pub inflight: u32,
@@ -34,7 +36,7 @@ pub struct Counts {
 
 // What calls change of a breaker, in document 01's order.
 #[repr(C)]
-#[derive(Drop)]
+#[derive(Clone, Copy)]
 pub struct Shared {
     // CLOSED, HALF_OPEN or OPEN
     pub state: u8,
@@ -48,7 +50,7 @@ pub struct Shared {
 }
 
 #[repr(C)]
-#[derive(Drop)]
+#[derive(Clone, Copy)]
 pub struct Breaker {
     pub config: Config,
     pub shared: Shared,
@@ -56,19 +58,19 @@ pub struct Breaker {
 
 // An admission: the generation it was made under, and whether it holds a trial.
 #[repr(C)]
-#[derive(Drop)]
+#[derive(Clone, Copy)]
 pub struct Ticket {
     pub generation: u64,
     pub probe: bool,
 }
 
-#[derive(Drop)]
+#[derive(Clone, Copy)]
 pub struct Delay {
     pub ms: u64,
 }
 
 // What an inner limiter replied (decision.rs of the Rust).
-#[derive(Drop)]
+#[derive(Clone, Copy)]
 pub enum Decision {
     Acquired,
     Retry(Delay),
@@ -76,33 +78,33 @@ pub enum Decision {
 }
 
 // The wait before a retry, or none.
-#[derive(Drop)]
+#[derive(Clone, Copy)]
 pub enum RetryAfter {
     After(Delay),
     Nothing,
 }
 
 // What an inner limiter replied to a reservation.
-#[derive(Drop)]
+#[derive(Clone, Copy)]
 pub enum Reservation {
     Wait(Delay),
     Nothing,
 }
 
-#[derive(Drop)]
+#[derive(Clone, Copy)]
 pub enum Admission {
     Granted(Ticket),
     Shed(Delay),
     Refused(Refusal),
 }
 
-#[derive(Drop)]
+#[derive(Clone, Copy)]
 pub enum Finished {
     Done,
     Refused(Refusal),
 }
 
-#[derive(Drop)]
+#[derive(Clone, Copy)]
 pub enum Tried {
     Granted(Ticket),
     Shed(Delay),
@@ -111,7 +113,7 @@ pub enum Tried {
     Refused(Refusal),
 }
 
-#[derive(Drop)]
+#[derive(Clone, Copy)]
 pub enum Standing {
     Admits,
     Shed(Delay),
@@ -119,69 +121,69 @@ pub enum Standing {
 }
 
 // A notice to give so much back to the inner limiter.
-#[derive(Drop)]
+#[derive(Clone, Copy)]
 pub enum Notice {
     Refund(u32),
     Refused(Refusal),
 }
 
-#[derive(Drop)]
+#[derive(Clone, Copy)]
 pub enum Decided {
     Is(Decision),
     Refused(Refusal),
 }
 
-#[derive(Drop)]
+#[derive(Clone, Copy)]
 pub enum Reserved {
     Is(Reservation),
     Refused(Refusal),
 }
 
-#[derive(Drop)]
+#[derive(Clone, Copy)]
 pub enum Counted {
     Count(u64),
     Refused(Refusal),
 }
 
 // What the tests before a call come to.
-#[derive(Drop)]
+#[derive(Clone, Copy)]
 pub enum Tested {
     Sound,
     Refused(Refusal),
 }
 
 // The answer of a call that tells no more than a refusal, and the record after it.
-#[derive(Drop)]
+#[derive(Clone, Copy)]
 pub struct Settled {
     pub answer: Finished,
     pub breaker: Breaker,
 }
 
-#[derive(Drop)]
+#[derive(Clone, Copy)]
 pub struct Admitted {
     pub answer: Admission,
     pub breaker: Breaker,
 }
 
-#[derive(Drop)]
+#[derive(Clone, Copy)]
 pub struct TriedAdmission {
     pub answer: Tried,
     pub breaker: Breaker,
 }
 
-#[derive(Drop)]
+#[derive(Clone, Copy)]
 pub struct Noticed {
     pub answer: Notice,
     pub breaker: Breaker,
 }
 
-#[derive(Drop)]
+#[derive(Clone, Copy)]
 pub struct Acquisition {
     pub answer: Decided,
     pub breaker: Breaker,
 }
 
-#[derive(Drop)]
+#[derive(Clone, Copy)]
 pub struct Reserving {
     pub answer: Reserved,
     pub breaker: Breaker,

@@ -1,5 +1,7 @@
 // What came of an admission, by value over lent storage: outcomes with and without a ticket, aborts, resets, permits, and the board figure
 // (circuit.rs of the Rust).
+#![tactic(auto)]
+
 mod calls;
 mod permits;
 

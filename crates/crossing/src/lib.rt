@@ -1,4 +1,6 @@
 // What crosses to C: the structs of plain numbers, what those that come in mean, and each answer as such numbers.
+#![tactic(auto)]
+
 mod codes;
 mod reply;
 mod settings;
@@ -19,7 +21,7 @@ use wait::Wait;
 // What a caller is told: the number of document 01's table, 0 where the call was not refused,
 // and the values of breaker's specs/Answers in their order, 0 where there is none. A probe flag is a value of 0 or 1.
 #[repr(C)]
-#[derive(Drop)]
+#[derive(Clone, Copy)]
 pub struct Told {
     pub number: u32,
     pub v1: u64,
@@ -29,7 +31,7 @@ pub struct Told {
 
 // What a caller of a wait is told: as above, with the values of wait's and waiting's specs/Answers, and the turns that a run took.
 #[repr(C)]
-#[derive(Drop)]
+#[derive(Clone, Copy)]
 pub struct Waited {
     pub number: u32,
     pub v1: u64,
@@ -42,7 +44,7 @@ pub struct Waited {
 
 // A setting. The numbers of another policy than its own are not read.
 #[repr(C)]
-#[derive(Drop)]
+#[derive(Clone, Copy)]
 pub struct Setting {
     // 1 Consecutive, 2 Ratio, 3 Windowed
     pub kind: u8,
@@ -61,7 +63,7 @@ pub struct Setting {
 
 // A ticket: the generation it was made under, and whether it holds a trial.
 #[repr(C)]
-#[derive(Drop)]
+#[derive(Clone, Copy)]
 pub struct PlainTicket {
     pub generation: u64,
     // 0 is false, any other number true
@@ -70,7 +72,7 @@ pub struct PlainTicket {
 
 // A wait and the ticket that was admitted for it.
 #[repr(C)]
-#[derive(Drop)]
+#[derive(Clone, Copy)]
 pub struct PlainPending {
     pub wait: Wait,
     pub ticket: PlainTicket,

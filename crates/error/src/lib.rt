@@ -1,9 +1,11 @@
 // Why a call is refused: rows 1 to 5, 11 and 13 to 15 of the table, which the Rust doesn't have.
+#![tactic(auto)]
+
 ghost use Rattle.std.specs.Prelude.{◌≡◌};
 ghost use Rattle.error.specs.Told.{number_of};
 
 // Why a call was refused: record and list are as they were.
-#[derive(Drop)]
+#[derive(Clone, Copy)]
 pub enum Refusal {
     // 1: a nanoseconds field of 10^9 or more, or a wait's time over its bound
     Time,

@@ -1,4 +1,6 @@
 // The breaker's calls, and those of a wait before it, over records that the caller lends: each is thin over its step by value.
+#![tactic(auto)]
+
 ghost use Rattle.std.specs.Prelude.{◌≡◌, true, false};
 ghost use Rattle.breaker.specs.Record.{HalfOpen, sound};
 ghost use Rattle.breaker.specs.Answers.{admission_told, finished_told, tried_told, standing_told, notice_told, decided_told, reserved_told, counted_told};

@@ -1,5 +1,7 @@
 // The list of a breaker in lent storage: 4,096 places, oldest first from place 0, 0 past the length (the VecDeques of the Rust).
 // It knows nothing of breakers. No function relies on a sound list: each says what it makes of any storage.
+#![tactic(auto)]
+
 ghost use Rattle.std.specs.Prelude.{◌≡◌, ℕ, ◌+◌, ◌-◌, ◌%◌, ◌^◌, ◌<◌, ◌≤◌, min, [], ◌∷◌, ◌++◌, length, take, drop, replicate, nat_lt};
 ghost use Rattle.history.specs.Items.{view, all_below, fits, sound_list, item_sum, recent, evicted, cutoff_of};
 ghost use Rattle.history.specs.Change.{laid, left, told, replaced, cleared};
@@ -13,7 +15,7 @@ pub const PLACES: usize = 4096;
 pub const MOST_ITEMS: u32 = 4096;
 
 // What the list of a breaker holds, by its policy.
-#[derive(Drop)]
+#[derive(Clone, Copy)]
 pub enum Items {
     // Consecutive: always empty
     Nothing,
@@ -24,7 +26,7 @@ pub enum Items {
 }
 
 // The answer of a call that changes the list: its new length, or a refusal that left every place as it was.
-#[derive(Drop)]
+#[derive(Clone, Copy)]
 pub enum Changed {
     Stored(u32),
     Refused(Refusal),

@@ -1,4 +1,6 @@
 // Replays an archive journal: from bytes to bytes.
+#![tactic(auto)]
+
 ghost use Rattle.std.specs.Prelude.{◌≡◌, min};
 ghost use Rattle.journal.specs.Replay.{Replaying, ReplayingRead};
 
@@ -22,7 +24,7 @@ pub const READ: usize = LIMIT + 1;
 pub const ROOM: usize = 23 * LIMIT + 149;
 
 // What became of a journal: the length of its answer, a buffer that its answer might not fit, or a storage of other than 4,096 places.
-#[derive(Drop)]
+#[derive(Clone, Copy)]
 pub enum Replayed {
     Written(usize),
     TooSmall,
@@ -30,7 +32,7 @@ pub enum Replayed {
 }
 
 // A line of the answer but for its last five numbers: its letter, and the two values before the five, of which some are skipped.
-#[derive(Drop)]
+#[derive(Clone, Copy)]
 struct Answer {
     letter: u8,
     skipped: usize,
@@ -39,7 +41,7 @@ struct Answer {
 }
 
 // What a call is answered, and the record after it.
-#[derive(Drop)]
+#[derive(Clone, Copy)]
 struct Stepped {
     answer: Answer,
     breaker: Breaker,

@@ -1,6 +1,8 @@
 // Replays journals that stand on standard input with the outputs expected of them, and counts those that differ.
 // A journal stands as `J name n m`, a line feed, n bytes of journal and m bytes of expected output. The file stdin was written by the
 // oracle (`journal cases` of oracle/: the unchanged Rust for every state change); stdout has their number, and 0 that differ.
+#![tactic(auto)]
+
 ghost use Rattle.std.specs.Prelude.{◌≡◌, ◌≤◌, ◌<◌, min, length};
 
 use history::PLACES;
@@ -8,7 +10,7 @@ use journal::{ROOM, Replayed};
 use libc::{STDIN_FILENO, STDOUT_FILENO};
 
 // Where a journal begins, where its expected output does, and where that ends.
-#[derive(Drop)]
+#[derive(Clone, Copy)]
 struct Case {
     journal: usize,
     expected: usize,

@@ -1,4 +1,6 @@
 // A wait that keeps its grant through a pause (`wait_with` and `Across::Keep` of the Rust): one turn on eight numbers, a run of turns, a drop.
+#![tactic(auto)]
+
 mod calls;
 mod moves;
 

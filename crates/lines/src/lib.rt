@@ -1,4 +1,6 @@
 // The archive journal's lines: a header or a call, read from the bytes.
+#![tactic(auto)]
+
 ghost use Rattle.lines.specs.Reads.{CallRead, HeaderRead};
 
 mod calls;
@@ -10,7 +12,7 @@ use calls::take_call;
 use headers::take_header;
 
 // A call of the journal: its reading, then generation and probe flag of its ticket.
-#[derive(Drop)]
+#[derive(Clone, Copy)]
 pub enum Call {
     Admit(u64),
     Success(u64, u64, bool),
@@ -20,7 +22,7 @@ pub enum Call {
 }
 
 // The first line. Ratio: window, bits, minimum calls. Windowed: failures, period. Then cooldown, trials, required; times in milliseconds.
-#[derive(Drop)]
+#[derive(Clone, Copy)]
 pub enum Header {
     Consecutive(u32, u64, u32, u32),
     Ratio(u32, u64, u32, u64, u32, u32),
@@ -28,35 +30,35 @@ pub enum Header {
 }
 
 // A call and the place after its line.
-#[derive(Drop)]
+#[derive(Clone, Copy)]
 pub enum ReadCall {
     Is(Call, usize),
     Malformed,
 }
 
 // A header and the place after its line.
-#[derive(Drop)]
+#[derive(Clone, Copy)]
 pub enum ReadHeader {
     Is(Header, usize),
     Malformed,
 }
 
 // A number and the place after it.
-#[derive(Drop)]
+#[derive(Clone, Copy)]
 enum Number {
     Value { value: u64, next: usize },
     Bad,
 }
 
 // The place after a line.
-#[derive(Drop)]
+#[derive(Clone, Copy)]
 enum Place {
     At(usize),
     Nowhere,
 }
 
 // The fields of a line: how many, and the greatest number that each holds. A limit of 0 stands for 16 hexadecimal digits.
-#[derive(Drop)]
+#[derive(Clone, Copy)]
 struct Limits {
     count: usize,
     of: [u64; 6],

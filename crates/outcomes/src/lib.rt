@@ -1,4 +1,6 @@
 // What an outcome does to a record and its list: decided first, from a list that is only read, then stored. Like steps it tests nothing.
+#![tactic(auto)]
+
 mod decide;
 mod settle;
 
@@ -7,7 +9,7 @@ use error::Refusal;
 pub use settle::{close, manual_locked, settle_closed, settle_locked, settle_unclosed};
 
 // What an outcome in Closed does: how many of the oldest items leave the list, and the run and the list's length after it.
-#[derive(Drop)]
+#[derive(Clone, Copy)]
 pub struct Change {
     pub gone: u32,
     pub run: u32,
@@ -15,7 +17,7 @@ pub struct Change {
 }
 
 // What an outcome in Closed comes to: a refusal; a change; or a change, and then it opens.
-#[derive(Drop)]
+#[derive(Clone, Copy)]
 pub enum Recorded {
     Refused(Refusal),
     Counted(Change),

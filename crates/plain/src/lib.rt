@@ -1,4 +1,6 @@
 // Every call by value over plain numbers: what comes in is read, the call is made, and what it came to is packed (crate crossing).
+#![tactic(auto)]
+
 mod calls;
 mod limiter;
 mod pack;
@@ -17,14 +19,14 @@ pub use permits::{permit_cancel, permit_dropped, permit_failure, permit_success}
 pub use waits::{wait_drop, wait_run, wait_start, wait_turn};
 
 // The answer of a call, and the record after it.
-#[derive(Drop)]
+#[derive(Clone, Copy)]
 pub struct Step {
     pub answer: Told,
     pub breaker: Breaker,
 }
 
 // The answer of a wait's call, and the record and the wait after it.
-#[derive(Drop)]
+#[derive(Clone, Copy)]
 pub struct WaitStep {
     pub answer: Waited,
     pub breaker: Breaker,

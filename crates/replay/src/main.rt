@@ -1,5 +1,7 @@
 // Replays the journal on standard input to standard output. Where that fails it says so on standard error.
 // The file stdin is document 01's case, filled to the limit, and a line more; stdout is the Rust's answer (`journal past_the_limit` of oracle/).
+#![tactic(auto)]
+
 ghost use Rattle.std.specs.Prelude.{◌+◌, ◌<◌, ◌^◌, ◌≡◌, length};
 ghost use Rattle.libc.specs.Io.{Moved};
 ghost use Rattle.replay.specs.Reading.{came_after, Grown, Came};
@@ -9,7 +11,7 @@ use journal::{READ, ROOM};
 use libc::{STDERR_FILENO, STDIN_FILENO, STDOUT_FILENO};
 
 // What has come: all of the input, so many bytes of it and maybe more to come, or nothing to go by, as a read failed.
-#[derive(Drop)]
+#[derive(Clone, Copy)]
 enum Input {
     Whole(usize),
     More(usize),

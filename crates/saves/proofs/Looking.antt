@@ -7,7 +7,7 @@ use native.Mathlib.Omega.{arith}
 use lib.Dec.{eqb}
 use lib.ListN.{length, take, length-append}
 use borrow.Author.Tests.{eqb-true, eqb-false, eq-eqb, ne_eqb}
-use Rattle.bytes.specs.Bytes.{number}
+use Rattle.le_bytes.specs.Bytes.{number}
 use Rattle.blocks.specs.Block.{summed, versioned}
 use Rattle.blocks.specs.Run.{every}
 use Rattle.body.specs.Save.{Save, Good, is_name, body_of}

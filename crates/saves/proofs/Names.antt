@@ -10,9 +10,9 @@ use lib.Seq.{take_all}
 use borrow.Author.Tests.{eqb-true, eqb-false, eq-eqb, ne_eqb, ltb-true, leb-true, le-leb, lt-leb}
 use Rattle.error.proofs.Choice.{and_split}
 use Rattle.history.specs.Items.{all_below}
-use Rattle.bytes.specs.Bytes.{bytes, number, number_at, Bytes}
-use Rattle.bytes.proofs.Little.{bytes-number, front}
-use Rattle.bytes.proofs.Written.{number_in}
+use Rattle.le_bytes.specs.Bytes.{bytes, number, number_at, Bytes}
+use Rattle.le_bytes.proofs.Little.{bytes-number, front}
+use Rattle.le_bytes.proofs.Written.{number_in}
 use Rattle.body.specs.Save.{is_name}
 use Rattle.body.proofs.Saves.{name-eight, name-ascii}
 use Rattle.saves.specs.Buffer.{same_bytes, framed}

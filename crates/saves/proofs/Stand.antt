@@ -7,10 +7,10 @@ use native.Mathlib.Omega.{arith}
 use lib.ListN.{length, take, drop, replicate, length-append, length-drop}
 use lib.Seq.{take_at, take_all}
 use Rattle.breaker.specs.declared.Breaker.{Breaker}
-use Rattle.bytes.specs.Bytes.{number, number_at, encoded, written, Bytes}
-use Rattle.bytes.proofs.Little.{bytes-append}
-use Rattle.bytes.proofs.Written.{number_in, width-most}
-use Rattle.bytes.proofs.Widths.{bytes-encoded}
+use Rattle.le_bytes.specs.Bytes.{number, number_at, encoded, written, Bytes}
+use Rattle.le_bytes.proofs.Little.{bytes-append}
+use Rattle.le_bytes.proofs.Written.{number_in, width-most}
+use Rattle.le_bytes.proofs.Widths.{bytes-encoded}
 use Rattle.blocks.specs.declared.Found.TheVariants as FoundIs
 use Rattle.blocks.specs.Run.{count_of, run_of, Body, body_in, put_body, Finds}
 use Rattle.blocks.proofs.Joins.{length_run, body-in}

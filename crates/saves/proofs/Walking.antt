@@ -11,7 +11,7 @@ use lib.Seq.{drop_at, drop-drop, take-suc-set}
 use borrow.Author.Tests.{eqb-true}
 use Rattle.error.specs.Choice.{if◌then◌else◌}
 use Rattle.error.proofs.Choice.{and_split}
-use Rattle.bytes.specs.Bytes.{number}
+use Rattle.le_bytes.specs.Bytes.{number}
 use Rattle.blocks.specs.Block.{summed}
 use Rattle.blocks.specs.Run.{count_of, run_of, every}
 use Rattle.blocks.proofs.Joins.{length_run}

@@ -8,7 +8,7 @@ use lib.Dec.{eqb}
 use lib.ListN.{length, take, drop, replicate, length-append, drop_of_length-le}
 use borrow.Author.Tests.{eqb-true, eq-eqb}
 use Rattle.breaker.specs.declared.Breaker.{Breaker}
-use Rattle.bytes.specs.Bytes.{number, decoded}
+use Rattle.le_bytes.specs.Bytes.{number, decoded}
 use Rattle.blocks.specs.Run.{count_of, run_of}
 use Rattle.blocks.proofs.Joins.{length_run}
 use Rattle.blocks.proofs.Unique.{run-one}

@@ -1,6 +1,6 @@
 -- What a look over a buffer finds: `LookedAs`. The rest is between the functions that it is made of.
 use Rattle.std.specs.Prelude.{ℕ, ◌*◌, ◌≤◌, ◌≡◌, Bool, true, false, ◌||◌, List, [], ◌∷◌, ◌++◌, eqb, length, take, drop}
-use Rattle.bytes.specs.Bytes.{number}
+use Rattle.le_bytes.specs.Bytes.{number}
 use Rattle.blocks.specs.Run.{count_of, run_of}
 use Rattle.body.specs.Save.{Save, Good, body_of}
 use Rattle.saves.specs.declared.Stands.{Stands}

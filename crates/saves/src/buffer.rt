@@ -1,7 +1,7 @@
 // What a buffer holds, in three passes over all its used blocks, and where the asked name is.
 ghost use Rattle.std.specs.Prelude.{◌≡◌, true, List, ◌++◌, ℕ, ◌*◌, ◌/◌, ◌≤◌, eqb, length, drop};
 ghost use Rattle.error.specs.Choice.{if◌then◌else◌};
-ghost use Rattle.bytes.specs.Bytes.{Bytes, number};
+ghost use Rattle.le_bytes.specs.Bytes.{Bytes, number};
 ghost use Rattle.blocks.specs.Block.{summed};
 ghost use Rattle.blocks.specs.Run.{count_of, every, run_of};
 ghost use Rattle.body.specs.Save.{body_of, Good, is_name, Save};
@@ -11,7 +11,7 @@ ghost use Rattle.saves.specs.Look.{LookedAs, SizeFits, StandsAs, WalkedAs, is_li
 use crate::{LARGEST, Looked, ROOM, Stands, Walked};
 use blocks::{BLOCK, Found, all_summed, all_versioned, count_of, join, run_at};
 use body::{is_name, read};
-use bytes::number_at;
+use le_bytes::number_at;
 use error::Refusal;
 
 fn is_framed(size: usize, used: usize) -> bool

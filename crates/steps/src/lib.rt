@@ -1,6 +1,8 @@
 // The steps that calls are made of: the kinds of change to a record, admission, abort and release. They test nothing: each promises what its
 // rule makes of the state that the record stores.
 // A name ends in `_locked`, as `admit_locked` of the Rust does, which runs under its lock: here the caller has tested the breaker.
+#![tactic(auto)]
+
 mod admit;
 mod back;
 mod update;
@@ -11,14 +13,14 @@ use breaker::{Breaker, Delay, Ticket};
 pub use update::{closed, one_less, one_more, opened, transition, with_counts, with_history};
 
 // What an admission comes to: its ticket and the record after it, or the delay.
-#[derive(Drop)]
+#[derive(Clone, Copy)]
 pub enum Entry {
     Granted(Ticket, Breaker),
     Shed(Delay),
 }
 
 // Whether a waiter may still go, or the delay.
-#[derive(Drop)]
+#[derive(Clone, Copy)]
 pub enum Verdict {
     Admits,
     Shed(Delay),

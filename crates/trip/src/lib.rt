@@ -1,4 +1,6 @@
 // Settings and policies (from circuit.rs: Trip, CircuitBreakerBuilder, Config, tripped).
+#![tactic(auto)]
+
 ghost use Rattle.std.specs.Prelude.{◌≡◌, min, max};
 ghost use Rattle.std.specs.Float.{binary64};
 ghost use Rattle.std.specs.Float.Ieee.{of_bits};
@@ -18,14 +20,14 @@ pub const ONE_BITS: u64 = 0x3ff0_0000_0000_0000;
 pub const INFINITY_BITS: u64 = 0x7ff0_0000_0000_0000;
 
 // Whole seconds and the nanoseconds past them.
-#[derive(Drop)]
+#[derive(Clone, Copy)]
 pub struct Duration {
     pub secs: u64,
     pub nanos: u32,
 }
 
 // A duration in milliseconds.
-#[derive(Drop)]
+#[derive(Clone, Copy)]
 pub enum Millis {
     Whole(u64),
     Refused(Refusal),
@@ -62,7 +64,7 @@ impl Duration {
 }
 
 // When a closed breaker trips.
-#[derive(Drop)]
+#[derive(Clone, Copy)]
 pub enum Trip {
     // after so many failures in a row
     Consecutive(u32),
@@ -80,7 +82,7 @@ pub enum Trip {
 }
 
 // The settings of Ratio.
-#[derive(Drop)]
+#[derive(Clone, Copy)]
 pub struct RatioSettings {
     pub window: u32,
     pub ratio: f64,
@@ -182,7 +184,7 @@ pub const POLICY_WINDOWED: u8 = 3;
 
 // The settings of a breaker record, in document 01's order. Fields of another policy are 0.
 #[repr(C)]
-#[derive(Drop)]
+#[derive(Clone, Copy)]
 pub struct Config {
     // 1 Consecutive, 2 Ratio, 3 Windowed
     pub kind: u8,
@@ -197,13 +199,13 @@ pub struct Config {
 }
 
 // What a builder makes.
-#[derive(Drop)]
+#[derive(Clone, Copy)]
 pub enum Built {
     Made(Config),
     Refused(Refusal),
 }
 
-#[derive(Drop)]
+#[derive(Clone, Copy)]
 pub struct CircuitBreakerBuilder {
     pub trip: Trip,
     pub cooldown: Duration,

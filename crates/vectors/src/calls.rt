@@ -9,7 +9,7 @@ use breaker::{
 use crossing::{Setting, Told};
 
 // What a call told, and the record after it.
-#[derive(Drop)]
+#[derive(Clone, Copy)]
 pub(crate) struct Called {
     pub(crate) told: Told,
     pub(crate) breaker: Breaker,

@@ -8,19 +8,19 @@ use wait::Observed;
 use waiting::{Awaiting, Beginning, Leaving, Pending, Proceeding};
 
 // What a call that only reads told, and the record after it.
-#[derive(Drop)]
+#[derive(Clone, Copy)]
 pub(crate) struct Stood {
     pub(crate) answer: Standing,
     pub(crate) breaker: Breaker,
 }
 
-#[derive(Drop)]
+#[derive(Clone, Copy)]
 pub(crate) struct Counting {
     pub(crate) answer: Counted,
     pub(crate) breaker: Breaker,
 }
 
-#[derive(Drop)]
+#[derive(Clone, Copy)]
 pub(crate) struct Sounded {
     pub(crate) answer: bool,
     pub(crate) breaker: Breaker,

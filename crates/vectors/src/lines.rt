@@ -5,7 +5,7 @@ ghost use Rattle.std.specs.Prelude.{◌<◌, ◌≤◌, length};
 pub(crate) type Line = [u64; 4105];
 
 // A number and the place past it.
-#[derive(Drop)]
+#[derive(Clone, Copy)]
 enum Read {
     Value(u64, usize),
     Bad,

@@ -1,4 +1,6 @@
 // Replays the samples of calls and of waits with the answers that the Rust gave (oracle/README.md, seed 1), and counts the lines that differ.
+#![tactic(auto)]
+
 mod calls;
 mod columns;
 mod compare;

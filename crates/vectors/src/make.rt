@@ -11,14 +11,14 @@ use wait::{Observed, Wait};
 use waiting::Pending;
 
 // Our record, and the wait under way or one that has ended.
-#[derive(Drop)]
+#[derive(Clone, Copy)]
 pub(crate) struct Ours {
     pub(crate) breaker: Breaker,
     pub(crate) pending: Pending,
 }
 
 // What a call told, and the record and the wait after it.
-#[derive(Drop)]
+#[derive(Clone, Copy)]
 pub(crate) struct Made {
     pub(crate) told: Waited,
     pub(crate) ours: Ours,

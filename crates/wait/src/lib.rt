@@ -1,5 +1,7 @@
 // A wait for the inner limiter (wait.rs of the Rust): what every manner of waiting shares. Knows nothing of breakers.
 // Times are nanoseconds. The host reads its clock, asks the limiter and sleeps; a turn says what it is to do.
+#![tactic(auto)]
+
 mod begin;
 mod bounds;
 mod manner;
@@ -25,7 +27,7 @@ pub const LATEST: u64 = 0x8000_0000_0000_0000;
 
 // A wait between two turns. Made of any numbers: each call tests them.
 #[repr(C)]
-#[derive(Drop)]
+#[derive(Clone, Copy)]
 pub struct Wait {
     // looking, holding a grant, or ended
     pub phase: u64,
@@ -52,7 +54,7 @@ pub const TURN_WIDTH: usize = 8;
 
 // What the host read for a turn; of each pair the first was read before the limiter was asked.
 #[repr(C)]
-#[derive(Drop)]
+#[derive(Clone, Copy)]
 pub struct Observed {
     pub clock: u64,
     pub epoch_before: u64,
@@ -66,7 +68,7 @@ pub struct Observed {
 }
 
 // What the host is to do before the next turn.
-#[derive(Drop)]
+#[derive(Clone, Copy)]
 pub enum Act {
     Sleep(u64),
     // at most so long, unless resumed past this epoch
@@ -76,7 +78,7 @@ pub enum Act {
 }
 
 // How a wait ends. A deadline says how much to give back, 0 or 1.
-#[derive(Drop)]
+#[derive(Clone, Copy)]
 pub enum Ending {
     Done,
     Deadline(u64),
@@ -84,20 +86,20 @@ pub enum Ending {
 }
 
 // What a turn that is not refused comes to: something to do and the wait after it, or the end.
-#[derive(Drop)]
+#[derive(Clone, Copy)]
 pub enum Move {
     Goes(Act, Wait),
     Ends(Ending),
 }
 
 // Whether a turn may be taken, or why not.
-#[derive(Drop)]
+#[derive(Clone, Copy)]
 pub enum TurnTest {
     Passes,
     Fails(Refusal),
 }
 
-#[derive(Drop)]
+#[derive(Clone, Copy)]
 pub enum Turned {
     Next(Act),
     Ends(Ending),
@@ -105,40 +107,40 @@ pub enum Turned {
 }
 
 // What a run of turns came to. Unfinished: its limit or its turns are used up.
-#[derive(Drop)]
+#[derive(Clone, Copy)]
 pub enum Ran {
     Ends(Ending),
     Unfinished,
     Refused(Refusal),
 }
 
-#[derive(Drop)]
+#[derive(Clone, Copy)]
 pub enum Started {
     Made(Wait),
     Refused(Refusal),
 }
 
 // How much a dropped wait gives back, 0 or 1.
-#[derive(Drop)]
+#[derive(Clone, Copy)]
 pub enum Dropped {
     GiveBack(u64),
     Refused(Refusal),
 }
 
-#[derive(Drop)]
+#[derive(Clone, Copy)]
 pub struct Turning {
     pub answer: Turned,
     pub wait: Wait,
 }
 
-#[derive(Drop)]
+#[derive(Clone, Copy)]
 pub struct Running {
     pub answer: Ran,
     pub taken: u64,
     pub wait: Wait,
 }
 
-#[derive(Drop)]
+#[derive(Clone, Copy)]
 pub struct Dropping {
     pub answer: Dropped,
     pub wait: Wait,

@@ -1,4 +1,6 @@
 // A wait before a breaker (`admit_waiting` and `SlotGuard` of circuit.rs): admission, turns, completion, drop.
+#![tactic(auto)]
+
 mod calls;
 mod ends;
 
@@ -9,13 +11,13 @@ use wait::{Act, Dropped, Wait};
 
 // A wait and the ticket that was admitted for it.
 #[repr(C)]
-#[derive(Drop)]
+#[derive(Clone, Copy)]
 pub struct Pending {
     pub wait: Wait,
     pub ticket: Ticket,
 }
 
-#[derive(Drop)]
+#[derive(Clone, Copy)]
 pub enum Begun {
     Waits,
     Shed(Delay),
@@ -24,7 +26,7 @@ pub enum Begun {
 
 // How a wait ends. Shed: the breaker no longer admits; the delay, and how much to refund. Impossible: cost and capacity. Deadline: how
 // much to give back.
-#[derive(Drop)]
+#[derive(Clone, Copy)]
 pub enum Completed {
     Admitted(Ticket),
     Shed(Delay, u64),
@@ -32,7 +34,7 @@ pub enum Completed {
     Deadline(u64),
 }
 
-#[derive(Drop)]
+#[derive(Clone, Copy)]
 pub enum Awaited {
     Next(Act),
     Ends(Completed),
@@ -40,7 +42,7 @@ pub enum Awaited {
 }
 
 // What a run of turns came to. Unfinished: its limit or its turns are used up.
-#[derive(Drop)]
+#[derive(Clone, Copy)]
 pub enum Course {
     Ends(Completed),
     Unfinished,
@@ -48,34 +50,34 @@ pub enum Course {
 }
 
 // A run's course, and the turns that it took.
-#[derive(Drop)]
+#[derive(Clone, Copy)]
 pub struct Progress {
     pub course: Course,
     pub taken: u64,
 }
 
-#[derive(Drop)]
+#[derive(Clone, Copy)]
 pub struct Beginning {
     pub answer: Begun,
     pub breaker: Breaker,
     pub pending: Pending,
 }
 
-#[derive(Drop)]
+#[derive(Clone, Copy)]
 pub struct Awaiting {
     pub answer: Awaited,
     pub breaker: Breaker,
     pub pending: Pending,
 }
 
-#[derive(Drop)]
+#[derive(Clone, Copy)]
 pub struct Proceeding {
     pub answer: Progress,
     pub breaker: Breaker,
     pub pending: Pending,
 }
 
-#[derive(Drop)]
+#[derive(Clone, Copy)]
 pub struct Leaving {
     pub answer: Dropped,
     pub breaker: Breaker,
@@ -83,7 +85,7 @@ pub struct Leaving {
 }
 
 // What a wait's end came to, and the record after it.
-#[derive(Drop)]
+#[derive(Clone, Copy)]
 pub struct Completion {
     pub answer: Completed,
     pub breaker: Breaker,

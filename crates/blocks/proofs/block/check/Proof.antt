@@ -5,7 +5,7 @@ use native.Mathlib.Omega.{arith}
 use native.Mathlib.Nat.{add-sub_cancel_left}
 use borrow.Author.Rules.{rules}
 use lib.ListN.{length, take, drop}
-use Rattle.bytes.proofs.Written.{number_in}
+use Rattle.le_bytes.proofs.Written.{number_in}
 use Rattle.blocks.specs.Block.{used_in}
 use Rattle.blocks.proofs.Judging.{part_by, part-refused, passes→}
 use Rattle.blocks.proofs.block.check.Statement.{statement}

@@ -2,7 +2,7 @@
 use mathlib.Core.Path.{sym, ◌∙◌}
 use native.Mathlib.Omega.{arith}
 use borrow.Author.Rules.{rules}
-use Rattle.bytes.proofs.Written.{number_in}
+use Rattle.le_bytes.proofs.Written.{number_in}
 use Rattle.blocks.proofs.block.field.Statement.{statement}
 use Rattle.blocks.proofs.block.field.Tie as tie
 

@@ -5,8 +5,8 @@ use mathlib.Core.Bool.{true}
 use native.Mathlib.Omega.{arith}
 use borrow.Author.Rules.{rules}
 use borrow.Author.Tests.{not-true, not-false}
-use Rattle.bytes.specs.Bytes.{Bytes}
-use Rattle.bytes.proofs.Little.{bytes-all, number-part}
+use Rattle.le_bytes.specs.Bytes.{Bytes}
+use Rattle.le_bytes.proofs.Little.{bytes-all, number-part}
 use Rattle.blocks.specs.Block.{may_hold}
 use Rattle.blocks.proofs.Blocks.{may-some}
 use Rattle.blocks.proofs.Judging.{proper-not, proper-is}

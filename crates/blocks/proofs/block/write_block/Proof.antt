@@ -6,8 +6,8 @@ use native.Mathlib.Omega.{arith}
 use borrow.Author.Rules.{rules}
 use lib.ListN.{length, take, drop}
 use lib.Seq.{length-take-le}
-use Rattle.bytes.specs.Bytes.{written}
-use Rattle.bytes.proofs.Written.{length-written}
+use Rattle.le_bytes.specs.Bytes.{written}
+use Rattle.le_bytes.proofs.Written.{length-written}
 use Rattle.blocks.specs.Block.{headed, filled, block}
 use Rattle.blocks.proofs.Blocks.{header-by, copied, filled-by, sum-put, block-by, length-filled}
 use Rattle.blocks.proofs.block.write_block.Statement.{statement}

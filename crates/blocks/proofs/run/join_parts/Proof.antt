@@ -7,8 +7,8 @@ use native.Mathlib.Omega.{arith}
 use borrow.Author.Rules.{rules}
 use lib.ListN.{length, take, drop, length-drop}
 use lib.Seq.{length-take-le}
-use Rattle.bytes.specs.Bytes.{written}
-use Rattle.bytes.proofs.Written.{put_in, length-written}
+use Rattle.le_bytes.specs.Bytes.{written}
+use Rattle.le_bytes.proofs.Written.{put_in, length-written}
 use Rattle.blocks.specs.Run.{count_of, body_in}
 use Rattle.blocks.proofs.Joins.{body-part, length-body, join-turn, join-end}
 use Rattle.blocks.proofs.run.join_parts.Statement.{statement}

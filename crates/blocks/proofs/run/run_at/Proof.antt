@@ -8,8 +8,8 @@ use native.Mathlib.Omega.{arith}
 use borrow.Author.Rules.{rules}
 use lib.ListN.{length, take, drop, length-drop}
 use lib.Seq.{length-take-le}
-use Rattle.bytes.specs.Bytes.{Bytes}
-use Rattle.bytes.proofs.Little.{bytes-all, bytes_take, number-part}
+use Rattle.le_bytes.specs.Bytes.{Bytes}
+use Rattle.le_bytes.proofs.Little.{bytes-all, bytes_take, number-part}
 use Rattle.blocks.specs.Block.{block, summed}
 use Rattle.blocks.specs.Run.{blocks_from, count_of, run_of, Body, UsedIn, every, joined}
 use Rattle.blocks.proofs.Every.{every-at}

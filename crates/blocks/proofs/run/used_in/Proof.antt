@@ -4,7 +4,7 @@ use mathlib.Core.Path.{◌≡◌, sym, ap, ◌∙◌}
 use mathlib.Core.Bool.{Bool, true, false, false≢true}
 use native.Mathlib.Omega.{arith}
 use borrow.Author.Rules.{rules}
-use Rattle.bytes.proofs.Little.{bytes-all}
+use Rattle.le_bytes.proofs.Little.{bytes-all}
 use Rattle.blocks.specs.Block.{may_hold}
 use Rattle.blocks.specs.Run.{UsedIn}
 use Rattle.blocks.proofs.Blocks.{Reads, may-some, reads_of, reads-version, reads-index, reads-count, no_block, is_block}

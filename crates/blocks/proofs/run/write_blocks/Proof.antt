@@ -9,9 +9,9 @@ use lib.ListN.{length, take, drop, length-take, length-drop}
 use lib.Seq.{length-take-le}
 use Rattle.blocks.specs.Block.{block}
 use Rattle.blocks.specs.Run.{blocks_from, count_of, run_of}
-use Rattle.bytes.specs.Bytes.{written}
+use Rattle.le_bytes.specs.Bytes.{written}
 use Rattle.blocks.proofs.Blocks.{length-block}
-use Rattle.bytes.proofs.Written.{length-written}
+use Rattle.le_bytes.proofs.Written.{length-written}
 use Rattle.blocks.proofs.Runs.{part-min, run-turn, run_end, block_back}
 use Rattle.blocks.proofs.run.write_blocks.Statement.{statement}
 use Rattle.blocks.proofs.run.write_blocks.Tie as tie

@@ -2,7 +2,7 @@
 use native.Mathlib.Omega.{arith}
 use borrow.Author.Rules.{rules}
 use mathlib.Core.Path.{refl}
-use Rattle.bytes.specs.Bytes.{Fit}
+use Rattle.le_bytes.specs.Bytes.{Fit}
 use Rattle.body.specs.Record.{breaker_of}
 use Rattle.body.specs.Save.{widths, fields_of}
 use Rattle.body.proofs.Records.{fields_fit}

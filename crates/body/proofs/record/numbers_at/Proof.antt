@@ -5,9 +5,9 @@ use mathlib.Core.List.{◌++◌}
 use native.Mathlib.Omega.{arith}
 use borrow.Author.Rules.{rules}
 use lib.ListN.{length, get_or, take, drop, set, length-set}
-use Rattle.bytes.specs.Bytes.{decoded, room}
-use Rattle.bytes.proofs.Written.{number_in}
-use Rattle.bytes.proofs.Widths.{room-front, read-turn, read-end}
+use Rattle.le_bytes.specs.Bytes.{decoded, room}
+use Rattle.le_bytes.proofs.Written.{number_in}
+use Rattle.le_bytes.proofs.Widths.{room-front, read-turn, read-end}
 use Rattle.body.proofs.record.numbers_at.Statement.{statement}
 use Rattle.body.proofs.record.numbers_at.Tie as tie
 

@@ -4,11 +4,11 @@ use mathlib.Core.Path.{◌≡◌, refl, sym, ap, ◌∙◌}
 use native.Mathlib.Omega.{arith}
 use borrow.Author.Rules.{rules}
 use lib.ListN.{length, get_or, drop}
-use Rattle.bytes.specs.Bytes.{bytes, encoded, room}
-use Rattle.bytes.specs.Bytes.{written}
-use Rattle.bytes.proofs.Little.{length-bytes}
-use Rattle.bytes.proofs.Written.{put_in}
-use Rattle.bytes.proofs.Widths.{room-front, write-turn, write-end}
+use Rattle.le_bytes.specs.Bytes.{bytes, encoded, room}
+use Rattle.le_bytes.specs.Bytes.{written}
+use Rattle.le_bytes.proofs.Little.{length-bytes}
+use Rattle.le_bytes.proofs.Written.{put_in}
+use Rattle.le_bytes.proofs.Widths.{room-front, write-turn, write-end}
 use Rattle.body.proofs.record.put_numbers.Statement.{statement}
 use Rattle.body.proofs.record.put_numbers.Tie as tie
 

@@ -5,9 +5,9 @@ use Prim.Native.Nat.{ℕ}
 use native.Mathlib.Omega.{arith}
 use borrow.Author.Rules.{rules}
 use lib.ListN.{length, drop, length-drop}
-use Rattle.bytes.specs.Bytes.{decoded}
-use Rattle.bytes.proofs.Little.{bytes-all, bytes_drop}
-use Rattle.bytes.proofs.Widths.{fit-decoded}
+use Rattle.le_bytes.specs.Bytes.{decoded}
+use Rattle.le_bytes.proofs.Little.{bytes-all, bytes_drop}
+use Rattle.le_bytes.proofs.Widths.{fit-decoded}
 use Rattle.body.specs.Save.{widths}
 use Rattle.body.specs.Record.{breaker_of}
 use Rattle.body.proofs.Records.{room-widths, widths-narrow}

@@ -2,7 +2,7 @@
 use Prim.Native.Nat.{ℕ}
 use mathlib.Core.Path.{sym, ap, ◌∙◌}
 use borrow.Author.Rules.{rules}
-use Rattle.bytes.specs.Bytes.{items_at}
+use Rattle.le_bytes.specs.Bytes.{items_at}
 use Rattle.body.proofs.Saves.{width-by}
 use Rattle.body.proofs.save.get_list.Statement.{statement}
 use Rattle.body.proofs.save.get_list.Tie as tie

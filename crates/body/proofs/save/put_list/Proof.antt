@@ -2,7 +2,7 @@
 use Prim.Native.Nat.{ℕ}
 use mathlib.Core.Path.{sym, ap, ◌∙◌}
 use borrow.Author.Rules.{rules}
-use Rattle.bytes.specs.Bytes.{put_items}
+use Rattle.le_bytes.specs.Bytes.{put_items}
 use Rattle.body.proofs.Saves.{width-by}
 use Rattle.body.proofs.save.put_list.Statement.{statement}
 use Rattle.body.proofs.save.put_list.Tie as tie

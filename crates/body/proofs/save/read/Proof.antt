@@ -14,8 +14,8 @@ use Rattle.history.specs.Items.{all_below, are_items, fits}
 use Rattle.history.proofs.Laws.{take_rest}
 use Rattle.breaker.specs.declared.Breaker.{Breaker}
 use Rattle.breaker.specs.Record.{items_of, sound_record}
-use Rattle.bytes.specs.Bytes.{Bytes}
-use Rattle.bytes.proofs.Little.{bytes-all}
+use Rattle.le_bytes.specs.Bytes.{Bytes}
+use Rattle.le_bytes.proofs.Little.{bytes-all}
 use Rattle.body.specs.Save.{Save, Good, body_of, size_of, width_of}
 use Rattle.body.proofs.Saves.{record_in, list_in, save_in, name-ascii, body-name, body-record, body-length, body-least, good-record, good-fits, body_alike, good-bytes, body_back, good-back}
 use Rattle.body.proofs.save.read.Statement.{statement}

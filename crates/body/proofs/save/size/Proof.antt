@@ -1,7 +1,7 @@
 -- `body::save::size` meets its contract. Assumes nothing.
 use native.Mathlib.Omega.{arith}
 use borrow.Author.Rules.{rules}
-use Rattle.bytes.proofs.Written.{width-most}
+use Rattle.le_bytes.proofs.Written.{width-most}
 use Rattle.body.proofs.Saves.{width-le, size_is}
 use Rattle.body.proofs.save.size.Statement.{statement}
 use Rattle.body.proofs.save.size.Tie as tie
