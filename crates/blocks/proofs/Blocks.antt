@@ -11,7 +11,7 @@ use lib.Seq.{take_at, drop_at, take_all, take-take, take-append-le, drop-append-
 use lib.Dec.{ltb, leb, eqb}
 use borrow.Author.Tests.{ltb-true, ltb-false, leb-true, leb-false, eqb-true, lt-ltb, le-ltb, le-leb, lt-leb, eq-eqb, ne_eqb}
 use Rattle.le_bytes.specs.Bytes.{bytes, number, encoded, decoded, Bytes, Fit, room}
-use Rattle.error.specs.Choice.{if◌then◌else◌}
+use Rattle.std.proofs.Common.{if◌then◌else◌}
 use Rattle.le_bytes.specs.Bytes.{written, put_at}
 use Rattle.error.proofs.Choice.{and_split}
 use Rattle.blocks.specs.Block.{sum_from, headed, filled, block, may_hold, zeros, summed, version_in, index_in, count_in, used_in}

@@ -10,7 +10,7 @@ use lib.Seq.{take_at, drop_at, take_all, take-append-le, drop-append-le, drop-dr
 use lib.Dec.{ltb, leb, eqb}
 use borrow.Author.Tests.{lt-ltb, le-ltb, le-leb, eq-eqb, ltb-true, leb-true, leb-false}
 use Rattle.le_bytes.specs.Bytes.{number, Bytes}
-use Rattle.error.specs.Choice.{if◌then◌else◌}
+use Rattle.std.proofs.Common.{if◌then◌else◌}
 use Rattle.le_bytes.specs.Bytes.{written}
 use Rattle.blocks.specs.Block.{block, may_hold}
 use Rattle.blocks.specs.Run.{blocks_from, count_of, run_of, Body, UsedIn}

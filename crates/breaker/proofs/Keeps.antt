@@ -14,7 +14,8 @@ use lib.Dec.{leb, eqb}
 use lib.ListN.{length}
 use lib.Ieee.{binary64, of_bits}
 use borrow.Author.Tests.{leb-true, leb-false}
-use Rattle.error.specs.Choice.{if◌then◌else◌, bit}
+use Rattle.std.proofs.Common.{if◌then◌else◌}
+use Rattle.error.specs.Choice.{bit}
 use Rattle.error.specs.Told.{Told, tell, refused}
 use Rattle.error.specs.declared.Refusal.TheVariants.{Full}
 use Rattle.history.specs.declared.Items.{Items}

@@ -4,7 +4,8 @@ use mathlib.Core.Path.{◌≡◌, refl, ap}
 use mathlib.Core.Bool.{Bool}
 use mathlib.Core.List.{List, [], ◌∷◌}
 use lib.Dec.{eqb}
-use Rattle.error.specs.Choice.{if◌then◌else◌, bit}
+use Rattle.std.proofs.Common.{if◌then◌else◌}
+use Rattle.error.specs.Choice.{bit}
 use Rattle.error.specs.Told.{Told}
 use Rattle.error.specs.declared.Refusal.{Refusal}
 use Rattle.error.proofs.Choice.{bit-back}

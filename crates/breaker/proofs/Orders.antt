@@ -14,7 +14,7 @@ use mathlib.Core.List.{List, [], ◌∷◌, ◌++◌, Permᴰ}
 use lib.Dec.{eqb, leb}
 use borrow.Author.Tests.{eq-eqb, ne_eqb, eqb-true, eqb-false, leb-true, leb-false, le-leb, lt-leb}
 use Rattle.error.specs.Told.{nothing}
-use Rattle.error.specs.Choice.{if◌then◌else◌}
+use Rattle.std.proofs.Common.{if◌then◌else◌}
 use Rattle.history.specs.Items.{padded}
 use Rattle.breaker.specs.declared.Ticket.{Ticket}
 use Rattle.breaker.specs.declared.Breaker.{Breaker}

@@ -4,7 +4,8 @@ use mathlib.Core.Path.{◌≡◌, refl}
 use mathlib.Core.Bool.{Bool, true, false, ◌&&◌, false≢true}
 use lib.Dec.{eqb}
 use borrow.Author.Tests.{eq-eqb, ne_eqb}
-use Rattle.error.specs.Choice.{if◌then◌else◌, bit, flag_of}
+use Rattle.std.proofs.Common.{if◌then◌else◌}
+use Rattle.error.specs.Choice.{bit, flag_of}
 
 pub if-cases : {A : Type 0} (P : A → Type 0) (x : Bool) {a b : A} → (x ≡ true → P a) → (x ≡ false → P b) → P (if x then a else b)
 if-cases P true f g = f refl

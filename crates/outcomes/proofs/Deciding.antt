@@ -13,7 +13,8 @@ use lib.Dec.{eqb, leb}
 use lib.Ieee.{Float, binary64, of_bits}
 use lib.ListN.{length, drop, length-append, length-drop, drop_of_length-le}
 use borrow.Author.Tests.{le-leb, lt-leb, eqb-true}
-use Rattle.error.specs.Choice.{if◌then◌else◌, bit}
+use Rattle.std.proofs.Common.{if◌then◌else◌}
+use Rattle.error.specs.Choice.{bit}
 use Rattle.error.specs.declared.Refusal.TheVariants.{Full}
 use Rattle.history.specs.declared.Items.{Items}
 use Rattle.history.specs.declared.Items.TheVariants.{Nothing, Outcomes, Times}

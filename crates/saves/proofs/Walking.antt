@@ -9,7 +9,7 @@ use lib.Dec.{eqb}
 use lib.ListN.{length, take, drop, set, length-append, length-drop, drop_of_length-le}
 use lib.Seq.{drop_at, drop-drop, take-suc-set}
 use borrow.Author.Tests.{eqb-true}
-use Rattle.error.specs.Choice.{if◌then◌else◌}
+use Rattle.std.proofs.Common.{if◌then◌else◌}
 use Rattle.error.proofs.Choice.{and_split}
 use Rattle.le_bytes.specs.Bytes.{number}
 use Rattle.blocks.specs.Block.{summed}

@@ -1,6 +1,5 @@
 -- `history::count_recent` meets its contract: the two parts that are counted are what is left of the list. Assumes nothing.
-use Rattle.std.proofs.Common.{ℕ, ◌+◌, ◌-◌, leb, take, drop, sym, ap, ◌∙◌, ap₂, arith}
-use Rattle.error.specs.Choice.{if◌then◌else◌}
+use Rattle.std.proofs.Common.{ℕ, ◌+◌, ◌-◌, leb, take, drop, sym, ap, ◌∙◌, ap₂, arith, if◌then◌else◌}
 use Rattle.history.specs.Items.{recent}
 use Rattle.history.proofs.Counts.{count-take, sum-append}
 use Rattle.history.proofs.Recorded.{part-from}
