@@ -1,6 +1,5 @@
 -- `breaker::is_sound` meets its contract: the record, then its list. Assumes nothing.
 use mathlib.Core.Path.{sym, ap, ◌∙◌}
-use borrow.Author.Rules.{rules}
 use borrow.Author.Tests.{not-true, not-false}
 use Rattle.history.specs.declared.Items.{Items}
 use Rattle.history.specs.Items.{sound_list}

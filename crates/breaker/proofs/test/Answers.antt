@@ -1,6 +1,5 @@
 -- `breaker::test` meets its contract: the two tests in their order. Assumes nothing.
 use mathlib.Core.Path.{sym, ◌∙◌}
-use borrow.Author.Rules.{rules}
 use borrow.Author.Tests.{not-true, not-false}
 use Rattle.breaker.specs.declared.Tested.TheVariants.{Sound, Refused}
 use Rattle.breaker.proofs.Guard.{guarded-storage, guarded-unsound, guarded-done}

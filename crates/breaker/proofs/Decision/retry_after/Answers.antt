@@ -1,6 +1,5 @@
 -- `breaker::Decision::retry_after` meets its contract: a case for each reply. Assumes nothing.
 use mathlib.Core.Path.{sym, ap}
-use borrow.Author.Rules.{rules}
 use Rattle.breaker.specs.Answers.{retry_after}
 use Rattle.breaker.proofs.Decision.retry_after.Goals as goal
 

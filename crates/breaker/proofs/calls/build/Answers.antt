@@ -1,9 +1,7 @@
 -- `breaker::calls::build` meets its contract: what the builder made, in cleared storage. Assumes nothing.
 use mathlib.Core.Path.{ap, ◌∙◌}
-use borrow.Author.Rules.{rules}
 use Rattle.history.specs.Change.{Left}
 use Rattle.history.proofs.Held.{clear-all}
-use Rattle.breaker.specs.declared.Counts.{Counts}
 use Rattle.breaker.proofs.Queries.{built-storage, built-refused, built-made, fresh-with}
 use Rattle.breaker.proofs.calls.build.Goals as goal
 

@@ -1,6 +1,5 @@
 -- `breaker::sound::sound_policy` meets its contract: each `return` is what the tests on its way make of the definition. Assumes nothing.
 use mathlib.Core.Path.{sym, ◌∙◌}
-use borrow.Author.Rules.{rules}
 use borrow.Author.Tests.{eq-eqb, ne_eqb, le-leb, lt-leb, not-true, not-false}
 use Rattle.breaker.specs.Record.{sound_policy}
 use Rattle.breaker.proofs.Tests.{consecutive-last, ratio-last, windowed-last}

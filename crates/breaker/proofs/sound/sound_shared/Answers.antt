@@ -1,6 +1,5 @@
 -- `breaker::sound::sound_shared` meets its contract: each `return` is what the tests on its way make of the definition. Assumes nothing.
 use mathlib.Core.Path.{◌∙◌}
-use borrow.Author.Rules.{rules}
 use borrow.Author.Tests.{eq-eqb, le-leb, lt-leb, lt-ltb, le-ltb}
 use Rattle.breaker.specs.Record.{sound_shared}
 use Rattle.breaker.proofs.Tests.{shared_last}
