@@ -4,7 +4,6 @@ use mathlib.Core.Bool.{Bool, true, false}
 use mathlib.Core.List.{List, [], ◌∷◌, ◌++◌, append-nil}
 use Prim.Native.Nat.{ℕ, zero, suc, ◌+◌, ◌≤◌, ◌<◌}
 use native.Mathlib.Numerals.{add-one}
-use native.Mathlib.Omega.{arith}
 use lib.ListN.{length, drop, set, get_or, length-append, drop_of_length-le}
 use lib.Seq.{drop-cons, append_snoc, set_at}
 use Rattle.error.specs.Told.{Told, refused, nothing}
@@ -15,7 +14,7 @@ use Rattle.trip.specs.declared.Config.{Config}
 use Rattle.breaker.specs.declared.Ticket.{Ticket}
 use Rattle.breaker.specs.declared.Breaker.{Breaker}
 use Rattle.breaker.specs.declared.Tested.TheVariants.{Sound, Refused}
-use Rattle.breaker.specs.Record.{State, Closed, settings, state, stored, sound}
+use Rattle.breaker.specs.Record.{State, settings, state, stored, sound}
 use Rattle.breaker.specs.Rules.{done, settled, aborted, finish}
 use Rattle.breaker.specs.Calls.{After, after, kept, guarded}
 use Rattle.breaker.specs.Orders.{Sequence, sequence, in_turn}

@@ -25,8 +25,8 @@ fn finish_each(
     marks: &[u8],
     answers: &mut [u64],
 ) -> Breaker
-    requires list_value { sound start list.old ≡ true }
-    requires probes_len { (length probes.now ≡ length generations.now) × (length settles.now ≡ length generations.now)
+    requires sound_start { sound start list.old ≡ true }
+    requires equal_lengths { (length probes.now ≡ length generations.now) × (length settles.now ≡ length generations.now)
         × (length marks.now ≡ length generations.now) × (length answers.old ≡ length generations.now) }
     ensures { batch (after (finished_told Finished.Done) result list.new) answers.new
         ≡
