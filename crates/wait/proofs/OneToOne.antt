@@ -1,9 +1,9 @@
 -- An answer of a wait is known by what it tells. Assumes nothing.
+use Rattle.std.specs.Prelude.{if◌then◌else◌}
 use Prim.Native.Nat.{ℕ}
 use mathlib.Core.Path.{◌≡◌, refl, ap, ◌∙◌}
 use mathlib.Core.List.{List, [], ◌∷◌}
 use lib.Dec.{eqb}
-use Rattle.std.proofs.Common.{if◌then◌else◌}
 use Rattle.error.proofs.OneToOne.{one, read, read-refused, at}
 use Rattle.wait.specs.declared.Act.{Act}
 use Rattle.wait.specs.declared.Act.TheVariants as ActIs

@@ -1,5 +1,5 @@
 -- In any manner a run is its turns one by one, a run that is not ended can be gone on with, and one that is unfinished took every turn. Assumes nothing.
-use Prim.Native.Nat.{ℕ, suc, ◌+◌}
+use Prim.Native.Nat.{ℕ, suc}
 use native.Mathlib.Omega.{arith}
 use mathlib.Core.Path.{◌≡◌, refl, sym, ap, ◌∙◌}
 use mathlib.Core.Bool.{Bool, true, false, not, ◌&&◌, ◌||◌, false≢true}

@@ -22,10 +22,8 @@ use Rattle.wait.specs.declared.Turned.TheVariants as TurnedIs
 use Rattle.wait.specs.declared.Ran.{Ran}
 use Rattle.wait.specs.declared.Ran.TheVariants as RanIs
 use Rattle.wait.specs.declared.Running.{Running}
-use Rattle.wait.specs.declared.Dropped.TheVariants as DroppedIs
-use Rattle.wait.specs.declared.Dropping.{Dropping}
 use Rattle.wait.specs.Turns.{ended_wait, turn_in_bounds, wait_in_bounds}
-use Rattle.wait.specs.Manner.{Manner, in_order, tested, turned_as, leaves, turned, dropped_as, dropped}
+use Rattle.wait.specs.Manner.{Manner, in_order, tested, turned_as, leaves, turned}
 use Rattle.wait.specs.Run.{ran_as, uncounted, stops, steps, turn_of, turns_of, runs}
 
 -- ---- the tests of a turn

@@ -1,0 +1,20 @@
+-- `wait::manner::in_order` meets its contract: each `return` is what the tests on its way make of the definition. Assumes nothing.
+use Rattle.wait.proofs.manner.in_order.Goals as goal
+
+pub returns-then-ended : goal.returns-then-ended
+returns-then-ended c = simp c.if-ended.true
+
+pub returns-then-not-known : goal.returns-then-not-known
+returns-then-not-known c = simp (c.if-ended.false, c.if-not-known.true)
+
+pub returns-then-not-wait_in_bounds : goal.returns-then-not-wait_in_bounds
+returns-then-not-wait_in_bounds c =
+    simp (c.if-ended.false, c.if-not-known.false, ← c.wait_in_bounds.ensures, c.if-not-wait_in_bounds.true)
+
+pub returns-then-not-turn_in_bounds : goal.returns-then-not-turn_in_bounds
+returns-then-not-turn_in_bounds c =
+    simp (c.if-ended.false, c.if-not-known.false, ← c.wait_in_bounds.ensures, c.if-not-wait_in_bounds.false, ← c.turn_in_bounds.ensures, c.if-not-turn_in_bounds.true)
+
+pub returns : goal.returns
+returns c =
+    simp (c.if-ended.false, c.if-not-known.false, ← c.wait_in_bounds.ensures, c.if-not-wait_in_bounds.false, ← c.turn_in_bounds.ensures, c.if-not-turn_in_bounds.false)

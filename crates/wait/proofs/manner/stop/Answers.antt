@@ -1,0 +1,11 @@
+-- `wait::manner::stop` meets its contract: each `return` is what the tests on its way make of the definition. Assumes nothing.
+use Rattle.wait.proofs.manner.stop.Goals as goal
+
+pub returns-then-ended : goal.returns-then-ended
+returns-then-ended c = simp c.if-ended.true
+
+pub returns-then-not-wait_in_bounds : goal.returns-then-not-wait_in_bounds
+returns-then-not-wait_in_bounds c = simp (c.if-ended.false, ← c.wait_in_bounds.ensures, c.if-not-wait_in_bounds.true)
+
+pub returns : goal.returns
+returns c = simp (c.if-ended.false, ← c.wait_in_bounds.ensures, c.if-not-wait_in_bounds.false)
