@@ -1,7 +1,6 @@
 -- W-201: a breaker saved under a name, and its bytes: "The joined body is the name, the record in document 01's order, then the list, 1 or 8
 -- bytes an item". Definitions only.
-use Rattle.std.specs.Prelude.{ℕ, ◌+◌, ◌*◌, ◌≡◌, Bool, true, ◌&&◌, List, ◌++◌, map, eqb, leb, length, replicate}
-use Rattle.error.specs.Choice.{if◌then◌else◌}
+use Rattle.std.specs.Prelude.{ℕ, ◌+◌, ◌*◌, ◌≡◌, Bool, true, ◌&&◌, List, ◌++◌, map, eqb, leb, length, replicate, if◌then◌else◌}
 use Rattle.history.specs.declared.Items.{Items}
 use Rattle.history.specs.declared.Items.TheVariants as ItemsIs
 use Rattle.history.specs.Items.{all_below, padded, view}

@@ -1,6 +1,5 @@
 -- "Numbers are little-endian": numbers in bytes, numbers of given widths one after another, and what is written over a buffer. Definitions only.
-use Rattle.std.specs.Prelude.{ℕ, zero, suc, ◌+◌, ◌*◌, ◌/◌, ◌%◌, ◌^◌, ◌<◌, Bool, ◌&&◌, List, [], ◌∷◌, ◌++◌, leb, length, take, drop, replicate}
-use Rattle.error.specs.Choice.{if◌then◌else◌}
+use Rattle.std.specs.Prelude.{ℕ, zero, suc, ◌+◌, ◌*◌, ◌/◌, ◌%◌, ◌^◌, ◌<◌, Bool, ◌&&◌, List, [], ◌∷◌, ◌++◌, leb, length, take, drop, replicate, if◌then◌else◌}
 
 -- n in k bytes, the least first
 unfoldable pub bytes : ℕ → ℕ → List ℕ

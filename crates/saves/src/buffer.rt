@@ -1,6 +1,5 @@
 // What a buffer holds, in three passes over all its used blocks, and where the asked name is.
-ghost use Rattle.std.specs.Prelude.{◌≡◌, true, List, ◌++◌, ℕ, ◌*◌, ◌/◌, ◌≤◌, eqb, length, drop};
-ghost use Rattle.error.specs.Choice.{if◌then◌else◌};
+ghost use Rattle.std.specs.Prelude.{◌≡◌, true, List, ◌++◌, ℕ, ◌*◌, ◌/◌, ◌≤◌, eqb, length, drop, if◌then◌else◌};
 ghost use Rattle.le_bytes.specs.Bytes.{Bytes, number};
 ghost use Rattle.blocks.specs.Block.{summed};
 ghost use Rattle.blocks.specs.Run.{count_of, every, run_of};
