@@ -1,6 +1,5 @@
 -- W-201: "A save is a run of 512-byte blocks". A body's run, and what is found of one, by writing alone. Definitions only.
-use Rattle.std.specs.Prelude.{ℕ, zero, suc, ◌+◌, ◌*◌, ◌/◌, ◌<◌, ◌≤◌, ◌≡◌, Bool, true, ◌&&◌, List, [], ◌++◌, leb, length, take, drop}
-use Rattle.error.specs.Choice.{if◌then◌else◌}
+use Rattle.std.specs.Prelude.{ℕ, zero, suc, ◌+◌, ◌*◌, ◌/◌, ◌<◌, ◌≤◌, ◌≡◌, Bool, true, ◌&&◌, List, [], ◌++◌, leb, length, take, drop, if◌then◌else◌}
 use Rattle.le_bytes.specs.Bytes.{Bytes, put_at, written}
 use Rattle.blocks.specs.Block.{block, may_hold}
 use Rattle.blocks.specs.declared.Found.{Found}
