@@ -16,7 +16,7 @@ use Rattle.steps.specs.declared.Verdict.TheVariants as VerdictIs
 use Rattle.breaker.specs.declared.Standing.TheVariants as StandingIs
 use Rattle.breaker.specs.declared.Decision.{Decision}
 use Rattle.breaker.specs.declared.Decision.TheVariants.{Acquired, Retry, Impossible}
-use Rattle.error.specs.Choice.{if◌then◌else◌}
+use Rattle.std.proofs.Common.{if◌then◌else◌}
 use Rattle.breaker.specs.Record.{Settings, State, settings, state, stored, sound}
 use Rattle.breaker.specs.Answers.{delay_values, delay_of, shed_told, ticket_values, decision_values, is_acquired, standing_told}
 use Rattle.breaker.specs.Rules.{Outcome, outcome, Admitted, granted, shed, admit, admit_as, via_trait, noted, aborted}

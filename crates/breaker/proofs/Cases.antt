@@ -5,7 +5,8 @@ use mathlib.Core.Logic.{◌≢◌}
 use mathlib.Core.Bool.{Bool, true, false, not, ◌&&◌}
 use lib.Dec.{leb, ltb, eqb}
 use borrow.Author.Tests.{eqb-true, eqb-false, ltb-true}
-use Rattle.error.specs.Choice.{if◌then◌else◌, bit}
+use Rattle.std.proofs.Common.{if◌then◌else◌}
+use Rattle.error.specs.Choice.{bit}
 use Rattle.error.specs.Told.{refused}
 use Rattle.error.specs.declared.Refusal.TheVariants.{Full}
 use Rattle.error.proofs.Choice.{if-cases, and_split}

@@ -6,10 +6,11 @@ use mathlib.Core.Path.{◌≡◌, refl, sym, ◌∙◌}
 use mathlib.Core.Bool.{Bool, true, false, ◌&&◌}
 use lib.Dec.{eqb}
 use borrow.Author.Tests.{eq-eqb, ne_eqb}
-use Rattle.error.specs.Choice.{if◌then◌else◌, bit}
+use Rattle.std.proofs.Common.{if◌then◌else◌}
+use Rattle.error.specs.Choice.{bit}
 use Rattle.breaker.specs.declared.Ticket.{Ticket}
 use Rattle.breaker.specs.Record.{Settings, State, Closed, HalfOpen, Open}
-use Rattle.breaker.specs.Rules.{done, less_counts, counting, probes, in_half_open, in_closed, settled, aborted}
+use Rattle.breaker.specs.Rules.{done, counting, probes, in_half_open, in_closed, settled, aborted}
 
 pub counting-none : (st : State) → counting 0 0 0 st ≡ st
 counting-none st = simp (sub-zero, add-zero)

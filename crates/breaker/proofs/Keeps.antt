@@ -12,13 +12,10 @@ use mathlib.Core.Logic.{◌≢◌, ◌⊎◌, inl, inr, ⊎_elim}
 use mathlib.Core.List.{List, [], ◌∷◌}
 use lib.Dec.{leb, eqb}
 use lib.ListN.{length}
-use lib.Ieee.{binary64, of_bits}
 use borrow.Author.Tests.{leb-true, leb-false}
-use Rattle.error.specs.Choice.{if◌then◌else◌, bit}
+use Rattle.error.specs.Choice.{bit}
 use Rattle.error.specs.Told.{Told, tell, refused}
 use Rattle.error.specs.declared.Refusal.TheVariants.{Full}
-use Rattle.history.specs.declared.Items.{Items}
-use Rattle.history.specs.declared.Items.TheVariants.{Nothing, Outcomes, Times}
 use Rattle.history.specs.Items.{padded, fits, sound_list}
 use Rattle.error.proofs.Choice.{if-cases, and_split}
 use Rattle.history.proofs.Sound.{view-padded, outcomes-fit}

@@ -4,7 +4,8 @@ use mathlib.Core.Path.{◌≡◌, refl, ap}
 use mathlib.Core.Bool.{Bool}
 use mathlib.Core.List.{List, [], ◌∷◌}
 use lib.Dec.{eqb}
-use Rattle.error.specs.Choice.{if◌then◌else◌, bit}
+use Rattle.std.proofs.Common.{if◌then◌else◌}
+use Rattle.error.specs.Choice.{bit}
 use Rattle.error.specs.Told.{Told}
 use Rattle.error.specs.declared.Refusal.{Refusal}
 use Rattle.error.proofs.Choice.{bit-back}
@@ -20,11 +21,9 @@ use Rattle.breaker.specs.declared.Standing.{Standing}
 use Rattle.breaker.specs.declared.Standing.TheVariants as StandingIs
 use Rattle.breaker.specs.declared.Notice.{Notice}
 use Rattle.breaker.specs.declared.Notice.TheVariants as NoticeIs
-use Rattle.breaker.specs.declared.Decision.{Decision}
 use Rattle.breaker.specs.declared.Decision.TheVariants as DecisionIs
 use Rattle.breaker.specs.declared.Decided.{Decided}
 use Rattle.breaker.specs.declared.Decided.TheVariants as DecidedIs
-use Rattle.breaker.specs.declared.Reservation.{Reservation}
 use Rattle.breaker.specs.declared.Reservation.TheVariants as ReservationIs
 use Rattle.breaker.specs.declared.Reserved.{Reserved}
 use Rattle.breaker.specs.declared.Reserved.TheVariants as ReservedIs

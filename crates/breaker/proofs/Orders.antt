@@ -5,21 +5,21 @@
 --     unmoved                       other generations
 use Prim.Native.Nat.{ℕ, zero, suc, ◌+◌, ◌-◌, ◌<◌}
 use native.Mathlib.Omega.{arith}
-use native.Mathlib.Nat.{sub-zero, add-zero, zero-add, add_assoc, sub-add-eq}
+use native.Mathlib.Nat.{zero-add, add_assoc, sub-add-eq}
 use mathlib.Core.Path.{◌≡◌, refl, sym, ◌∙◌, ap}
 use mathlib.Core.Logic.{◌≢◌, ◌⊎◌, inl, inr, ⊎_elim}
 use mathlib.Core.Bool.{Bool, true, false, not, ◌||◌, false≢true}
 use mathlib.Core.List.Permᴰ
 use mathlib.Core.List.{List, [], ◌∷◌, ◌++◌, Permᴰ}
 use lib.Dec.{eqb, leb}
-use borrow.Author.Tests.{eq-eqb, ne_eqb, eqb-true, eqb-false, leb-true, leb-false, le-leb, lt-leb}
+use borrow.Author.Tests.{ne_eqb, eqb-true, eqb-false, leb-true, leb-false, le-leb, lt-leb}
 use Rattle.error.specs.Told.{nothing}
-use Rattle.error.specs.Choice.{if◌then◌else◌}
+use Rattle.std.proofs.Common.{if◌then◌else◌}
 use Rattle.history.specs.Items.{padded}
 use Rattle.breaker.specs.declared.Ticket.{Ticket}
 use Rattle.breaker.specs.declared.Breaker.{Breaker}
 use Rattle.breaker.specs.Record.{Settings, State, Closed, HalfOpen, Open, settings, state, stored}
-use Rattle.breaker.specs.Rules.{Outcome, done, next, opening, closing, less_counts, counting, Call, success, failure, abort, trait_abort, ticket, probes, in_half_open, in_closed, settled, aborted, finish}
+use Rattle.breaker.specs.Rules.{Outcome, done, next, opening, closing, counting, Call, success, failure, abort, trait_abort, ticket, probes, in_half_open, in_closed, settled, finish}
 use Rattle.breaker.specs.Orders.{Sequence, sequence, succeeds, fails, many, AllOf, is_other, without_others, put_back, Harmless, Equal, Theorem}
 use Rattle.error.proofs.Choice.{if-cases}
 use Rattle.breaker.proofs.Cases.{settled-cases, failure-cases}

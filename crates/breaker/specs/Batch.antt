@@ -1,6 +1,6 @@
 -- A batch: a sequence of finishing calls given as slices, and what it leaves. Definitions only.
-use Rattle.std.specs.Prelude.{ℕ, zero, suc, Bool, true, false, not, ◌&&◌, List, [], ◌∷◌, ◌++◌, map, eqb, length, get_or}
-use Rattle.error.specs.Choice.{if◌then◌else◌, flag_of}
+use Rattle.std.specs.Prelude.{ℕ, zero, suc, Bool, true, false, not, ◌&&◌, List, [], ◌∷◌, ◌++◌, map, eqb, length, get_or, if◌then◌else◌}
+use Rattle.error.specs.Choice.{flag_of}
 use Rattle.error.specs.Told.{Told, refused}
 use Rattle.error.specs.declared.Refusal.TheVariants.{Storage}
 use Rattle.breaker.specs.declared.Ticket.{Ticket}

@@ -1,6 +1,5 @@
 -- The entry points: each tests 3 and 4 (making a breaker: 3, 1, 2), and then does what its rule says. Definitions only.
-use Rattle.std.specs.Prelude.{ℕ, Bool, true, false, not, List, [], eqb, length}
-use Rattle.error.specs.Choice.{if◌then◌else◌}
+use Rattle.std.specs.Prelude.{ℕ, Bool, true, false, not, List, [], eqb, length, if◌then◌else◌}
 use Rattle.error.specs.Told.{Told, refused}
 use Rattle.error.specs.declared.Refusal.{Refusal}
 use Rattle.error.specs.declared.Refusal.TheVariants.{Storage, Unsound}

@@ -1,9 +1,8 @@
 -- "Finishing orders": what a sequence of finishing calls does, from a sound HalfOpen breaker, at one reading and with no other call among
 -- them. `FinishingOrders` is demand 3; `finishing-orders` of proofs/Orders.antt proves `Theorem`, and the batch's promise carries it.
 -- Definitions only.
-use Rattle.std.specs.Prelude.{ℕ, ◌+◌, ◌<◌, ◌≡◌, ◌↔◌, ◌⊎◌, Bool, true, not, ◌||◌, eqb}
+use Rattle.std.specs.Prelude.{ℕ, ◌+◌, ◌<◌, ◌≡◌, ◌↔◌, ◌⊎◌, Bool, true, not, ◌||◌, eqb, if◌then◌else◌}
 use mathlib.Core.List.{List, [], ◌∷◌, ◌++◌, tail, Permᴰ}
-use Rattle.error.specs.Choice.{if◌then◌else◌}
 use Rattle.error.specs.Told.{Told, nothing}
 use Rattle.history.specs.Items.{padded}
 use Rattle.breaker.specs.declared.Breaker.{Breaker}

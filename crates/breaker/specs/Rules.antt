@@ -1,7 +1,7 @@
 -- "Tickets and delays": what each call does to a state, and what it tells. Every rule is total, on all numbers; the minus of ℕ stops at 0.
 -- Definitions only.
-use Rattle.std.specs.Prelude.{ℕ, zero, suc, ◌+◌, ◌-◌, ◌%◌, ◌^◌, min, Bool, true, false, not, ◌&&◌, ◌||◌, List, [], leb, ltb, eqb}
-use Rattle.error.specs.Choice.{if◌then◌else◌, bit}
+use Rattle.std.specs.Prelude.{ℕ, zero, suc, ◌+◌, ◌-◌, ◌%◌, ◌^◌, min, Bool, true, false, not, ◌&&◌, ◌||◌, List, [], leb, ltb, eqb, if◌then◌else◌}
+use Rattle.error.specs.Choice.{bit}
 use Rattle.error.specs.Told.{Told, nothing, refused}
 use Rattle.error.specs.declared.Refusal.TheVariants.{Full}
 use Rattle.history.specs.Items.{cutoff_of, with_outcome, with_time, without_expired}

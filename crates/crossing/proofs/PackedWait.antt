@@ -4,7 +4,7 @@ use mathlib.Core.Path.{◌≡◌, refl, sym, ap, ◌∙◌}
 use mathlib.Core.List.{[], ◌∷◌}
 use lib.Dec.{eqb}
 use lib.ListN.{take}
-use Rattle.error.specs.Choice.{if◌then◌else◌}
+use Rattle.std.proofs.Common.{if◌then◌else◌}
 use Rattle.error.specs.Told.{Told as Answer, tell}
 use Rattle.wait.specs.declared.Act.TheVariants.{Sleep, SleepUnlessResumed, Yield, LookAgain}
 use Rattle.wait.specs.declared.Dropped.{Dropped}

@@ -1,6 +1,6 @@
 -- What crosses to C: an answer as plain numbers, and what the plain numbers that come in mean. Definitions only.
-use Rattle.std.specs.Prelude.{ℕ, Bool, not, ◌&&◌, List, leb, eqb, length, get_or}
-use Rattle.error.specs.Choice.{if◌then◌else◌, flag_of}
+use Rattle.std.specs.Prelude.{ℕ, Bool, not, ◌&&◌, List, leb, eqb, length, get_or, if◌then◌else◌}
+use Rattle.error.specs.Choice.{flag_of}
 use Rattle.error.specs.Told.{Told as Answer, refused}
 use Rattle.error.specs.declared.Refusal.TheVariants.{Storage, Unsound, Turn}
 use Rattle.trip.specs.declared.Trip.{Trip}

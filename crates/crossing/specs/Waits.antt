@@ -1,6 +1,6 @@
 -- What of a wait crosses to C: an answer as plain numbers, the pending wait that a caller holds, and what a call leaves. Definitions only.
-use Rattle.std.specs.Prelude.{ℕ, List, eqb, get_or}
-use Rattle.error.specs.Choice.{if◌then◌else◌, bit}
+use Rattle.std.specs.Prelude.{ℕ, List, eqb, get_or, if◌then◌else◌}
+use Rattle.error.specs.Choice.{bit}
 use Rattle.error.specs.Told.{Told as Answer}
 use Rattle.breaker.specs.declared.Ticket.{Ticket}
 use Rattle.breaker.specs.declared.Breaker.{Breaker}

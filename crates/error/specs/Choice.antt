@@ -1,4 +1,4 @@
--- A test as a number, and a number as a test. (A choice by a test is the library's.)
+-- A test as a number, and a number as a test.
 use Rattle.std.specs.Prelude.{ℕ, Bool, true, false, not, eqb}
 
 -- 1 for true, 0 for false

@@ -1,7 +1,5 @@
 -- What the calls that change a list make of any storage: the refusals, and the rule's list laid over the old one. Assumes nothing.
-use Rattle.std.proofs.Common.{◌≡◌, ℕ, suc, ◌+◌, ◌-◌, ◌<◌, ◌≤◌, min, Bool, true, false, ltb, leb, List, [], ◌∷◌, ◌++◌, length, get_or, take, drop, sym, refl, ap, ◌∙◌, append-nil, add-one, arith, length-append, drop_of_length-le, length-take-le, drop-cons, le-ltb, lt-ltb, eq-eqb, le-leb, leb-false, leb-true}
-use borrow.Author.Tests.{lt-leb}
-use Rattle.error.specs.Choice.{if◌then◌else◌}
+use Rattle.std.proofs.Common.{◌≡◌, ℕ, suc, ◌+◌, ◌-◌, ◌<◌, ◌≤◌, min, Bool, true, false, ltb, leb, List, [], ◌∷◌, ◌++◌, length, get_or, take, drop, sym, refl, ap, ◌∙◌, append-nil, add-one, arith, length-append, drop_of_length-le, length-take-le, drop-cons, le-ltb, lt-ltb, eq-eqb, le-leb, leb-false, leb-true, if◌then◌else◌}
 use Rattle.error.specs.Told.{tell}
 use Rattle.error.specs.declared.Refusal.TheVariants.{Full}
 use Rattle.history.specs.Items.{evicted}

@@ -4,9 +4,8 @@
 --     count-le        a count is at most the length
 --     sum-failures  the sum of outcomes is how many failed
 --     recent-more, recent-next   differences without the top bit are of items at or after the cutoff
-use Rattle.std.proofs.Common.{◌≡◌, ℕ, zero, suc, ◌+◌, ◌-◌, ◌%◌, ◌^◌, ◌<◌, ◌≤◌, Bool, true, false, eqb, ltb, ◌⊎◌, List, [], ◌∷◌, ◌++◌, length, get_or, take, sym, refl, ap, ◌∙◌, ap₂, inl, inr, zero-le, add-zero, add_assoc, zero-add, add-one, arith, length-append, length-take, take-suc, ltb-true, le-leb}
+use Rattle.std.proofs.Common.{◌≡◌, ℕ, zero, suc, ◌+◌, ◌%◌, ◌^◌, ◌<◌, ◌≤◌, Bool, true, false, eqb, ltb, ◌⊎◌, List, [], ◌∷◌, ◌++◌, length, get_or, take, sym, refl, ap, ◌∙◌, ap₂, inl, inr, zero-le, add-zero, add_assoc, zero-add, add-one, arith, length-append, length-take, take-suc, ltb-true, le-leb, if◌then◌else◌}
 use lib.Bits.{bit_or, or_comm}
-use Rattle.error.specs.Choice.{if◌then◌else◌}
 use Rattle.history.specs.Items.{all_below, sum_of, item_sum, failures, recent}
 use Rattle.error.proofs.Choice.{and_split}
 use Rattle.history.proofs.Laws.{or-ge}

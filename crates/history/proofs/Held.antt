@@ -2,8 +2,7 @@
 --     replaced-held, clear-held, clear-sound   any kind
 --     outcome-sound, failures-held             Ratio
 --     time-sound, evict-sound                  Windowed
-use Rattle.std.proofs.Common.{◌≡◌, ℕ, ◌+◌, ◌-◌, ◌%◌, ◌^◌, ◌<◌, ◌≤◌, true, false, eqb, leb, List, [], ◌∷◌, ◌++◌, length, drop, refl, ap, ◌∙◌, arith, length-append, length-drop, drop_of_length-le, length-take-le, lt-ltb, eq-eqb, le-leb, leb-false}
-use Rattle.error.specs.Choice.{if◌then◌else◌}
+use Rattle.std.proofs.Common.{◌≡◌, ℕ, ◌-◌, ◌%◌, ◌^◌, ◌<◌, ◌≤◌, true, false, eqb, leb, List, [], ◌∷◌, ◌++◌, length, drop, refl, ap, ◌∙◌, arith, length-append, length-drop, drop_of_length-le, length-take-le, lt-ltb, eq-eqb, le-leb, leb-false, if◌then◌else◌}
 use Rattle.error.specs.Told.{tell}
 use Rattle.error.specs.declared.Refusal.TheVariants.{Full}
 use Rattle.history.specs.declared.Items.{Items}

@@ -1,6 +1,5 @@
 -- An answer is known by what it tells. Assumes nothing.
-use Rattle.std.proofs.Common.{◌≡◌, eqb, get_or, sym, refl, ap, ◌∙◌}
-use Rattle.error.specs.Choice.{if◌then◌else◌}
+use Rattle.std.proofs.Common.{◌≡◌, eqb, get_or, sym, refl, ap, ◌∙◌, if◌then◌else◌}
 use Rattle.error.specs.Told.{Told}
 use Rattle.error.proofs.OneToOne.{named, named-number, number-not-0}
 use Rattle.history.specs.declared.Changed.{Changed}

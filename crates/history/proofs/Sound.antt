@@ -2,7 +2,7 @@
 --     sound→       the test passes: the storage has 4,096 places, and is the list that lies in it, padded; the length is one that its kind may have
 --     →sound       a list of such a length and such items, padded, passes
 --     view-padded  the list that lies in a padded list is that list
-use Rattle.std.proofs.Common.{◌≡◌, ℕ, zero, suc, ◌+◌, ◌-◌, ◌≤◌, true, ◌&&◌, eqb, ltb, leb, List, [], ◌∷◌, ◌++◌, length, take, drop, replicate, sym, refl, ap, ◌∙◌, arith, length-append, length-drop, take-append-drop, length-take-le, ltb-true, eq-eqb, eqb-true, le-leb, leb-true}
+use Rattle.std.proofs.Common.{◌≡◌, ℕ, zero, suc, ◌-◌, ◌≤◌, true, ◌&&◌, eqb, ltb, leb, List, [], ◌∷◌, ◌++◌, length, take, drop, replicate, sym, refl, ap, ◌∙◌, arith, length-append, length-drop, take-append-drop, length-take-le, ltb-true, eq-eqb, eqb-true, le-leb, leb-true}
 use lib.ListN.{length-replicate}
 use lib.Seq.{take-append_seam, drop-append_seam}
 use Rattle.history.specs.declared.Items.{Items}

@@ -1,6 +1,5 @@
 -- What a call that changes the list answers, and what it leaves in every place.
-use Rattle.std.specs.Prelude.{ℕ, ◌-◌, max, Bool, not, leb, List, [], ◌∷◌, ◌++◌, length, drop, replicate, ◌==◌, nat_le}
-use Rattle.error.specs.Choice.{if◌then◌else◌}
+use Rattle.std.specs.Prelude.{ℕ, ◌-◌, max, Bool, not, leb, List, [], ◌∷◌, ◌++◌, length, drop, replicate, ◌==◌, nat_le, if◌then◌else◌}
 use Rattle.error.specs.Told.{Told, tell, refused}
 use Rattle.error.specs.declared.Refusal.{Refusal}
 use Rattle.error.specs.declared.Refusal.TheVariants.{Storage, Unsound, Full}

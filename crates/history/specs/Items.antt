@@ -1,7 +1,6 @@
 -- "The list lies in lent storage of 4,096 places, oldest first from place 0: outcomes (1 failed, 0 good) for Ratio, readings for
 -- Windowed, empty for Consecutive; places past its length hold 0."
-use Rattle.std.specs.Prelude.{ℕ, ◌+◌, ◌-◌, Bool, true, ◌&&◌, List, [], ◌∷◌, ◌++◌, length, take, drop, replicate, ◌==◌, nat_le, nat_lt}
-use Rattle.error.specs.Choice.{if◌then◌else◌}
+use Rattle.std.specs.Prelude.{ℕ, ◌+◌, ◌-◌, Bool, true, ◌&&◌, List, [], ◌∷◌, ◌++◌, length, take, drop, replicate, ◌==◌, nat_le, nat_lt, if◌then◌else◌}
 use Rattle.history.specs.declared.Items.{Items}
 use Rattle.history.specs.declared.Items.TheVariants.{Nothing, Outcomes, Times}
 

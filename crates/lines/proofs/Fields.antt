@@ -9,7 +9,7 @@ use lib.Seq.{take-suc-set}
 use lib.ListN.{length, take, drop, get_or, set}
 use lib.Dec.{eqb}
 use borrow.Author.Tests.{eqb-true}
-use Rattle.error.specs.Choice.{if◌then◌else◌}
+use Rattle.std.proofs.Common.{if◌then◌else◌}
 use Rattle.lines.specs.Print.{print_decimal, print_hex16}
 use Rattle.lines.specs.Take.{Taken, got, none, bound, digit_of, take_number, take_hex, max64, top, print_as, print_all, take_field, ahead, take_rest, Within}
 use Rattle.lines.proofs.Numbers.{stops, number-there, number-back, hex16-there, hex16-back, front}

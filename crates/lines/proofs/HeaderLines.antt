@@ -8,7 +8,7 @@ use lib.ListN.{length, take, drop, get_or}
 use lib.Seq.{get_or-take}
 use lib.Dec.{eqb}
 use borrow.Author.Tests.{eqb-true}
-use Rattle.error.specs.Choice.{if◌then◌else◌}
+use Rattle.std.proofs.Common.{if◌then◌else◌}
 use Rattle.lines.specs.Print.{print_decimal, print_hex16, print_fields, print_header, HeaderFits}
 use Rattle.lines.specs.Take.{got, none, max32, take_rest, print_all, Within, limits_of, made_header, take_header, seen_header, header_end}
 use Rattle.lines.specs.Reads.{HeaderRead}

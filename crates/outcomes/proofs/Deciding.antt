@@ -3,8 +3,8 @@
 --     run-*, outcome-*, time-*                      each policy
 --     half-*                                        HalfOpen
 --     store_nothing, store-items                    the list stored
-use mathlib.Core.Path.{◌≡◌, refl, sym, ap, ap₂, ◌∙◌}
-use mathlib.Core.Bool.{Bool, true, false, not}
+use mathlib.Core.Path.{◌≡◌, refl, sym, ap, ◌∙◌}
+use mathlib.Core.Bool.{Bool, true, false}
 use mathlib.Core.List.{List, [], ◌∷◌, ◌++◌, append-nil}
 use Prim.Native.Nat.{ℕ, ◌+◌, ◌-◌, ◌%◌, ◌^◌, ◌≤◌, ◌<◌, min}
 use native.Mathlib.Nat.{sub-zero}
@@ -13,18 +13,18 @@ use lib.Dec.{eqb, leb}
 use lib.Ieee.{Float, binary64, of_bits}
 use lib.ListN.{length, drop, length-append, length-drop, drop_of_length-le}
 use borrow.Author.Tests.{le-leb, lt-leb, eqb-true}
-use Rattle.error.specs.Choice.{if◌then◌else◌, bit}
+use Rattle.std.proofs.Common.{if◌then◌else◌}
+use Rattle.error.specs.Choice.{bit}
 use Rattle.error.specs.declared.Refusal.TheVariants.{Full}
-use Rattle.history.specs.declared.Items.{Items}
 use Rattle.history.specs.declared.Items.TheVariants.{Nothing, Outcomes, Times}
-use Rattle.history.specs.Items.{view, padded, sound_list, failures, recent, item_sum, evicted}
+use Rattle.history.specs.Items.{view, sound_list, failures, recent, item_sum, evicted}
 use Rattle.error.specs.Told.{tell}
-use Rattle.history.specs.Change.{full, left, held, replaced}
+use Rattle.history.specs.Change.{left, held, replaced}
 use Rattle.history.proofs.Sound as List·
 use Rattle.history.proofs.Held.{replaced-held, failures-le, failures-held}
 use Rattle.history.proofs.Recorded.{outcome-is, outcome-failures, time-is, time-recent}
 use Rattle.trip.specs.declared.Config.{Config}
-use Rattle.trip.specs.Policy.{Policy, Consecutive, Ratio, Windowed, policy_of, ratio_reached, tripped}
+use Rattle.trip.specs.Policy.{Consecutive, Ratio, Windowed, policy_of, ratio_reached, tripped}
 use Rattle.breaker.specs.declared.Counts.{Counts}
 use Rattle.breaker.specs.declared.Ticket.{Ticket}
 use Rattle.breaker.specs.declared.Breaker.{Breaker}
@@ -32,7 +32,7 @@ use Rattle.breaker.specs.Record.{Settings, State, settings, stored, items_for, i
 use Rattle.breaker.specs.Rules.{probes, less_counts, with_counts, opening, closing, recorded, no_room, in_half_open, in_closed}
 use Rattle.breaker.proofs.Record.{sound→}
 use Rattle.outcomes.specs.declared.Change.{Change}
-use Rattle.outcomes.specs.declared.Recorded.TheVariants.{Refused, Counted, Tripped}
+use Rattle.outcomes.specs.declared.Recorded.TheVariants.{Refused, Counted}
 use Rattle.steps.specs.Steps.{Holds}
 use Rattle.outcomes.specs.Decide.{appended, changed, counted_as, Decides}
 

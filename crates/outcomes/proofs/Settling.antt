@@ -17,7 +17,7 @@ use Rattle.breaker.specs.declared.Counts.{Counts}
 use Rattle.breaker.specs.declared.Ticket.{Ticket}
 use Rattle.breaker.specs.declared.Breaker.{Breaker}
 use Rattle.breaker.specs.Record.{Settings, State, HalfOpen, Closed, settings, stored, items_of, sound}
-use Rattle.breaker.specs.Rules.{done, less_counts, counting, with_counts, with_history, opening, closing, probes, in_half_open, in_closed, settled, manual}
+use Rattle.breaker.specs.Rules.{less_counts, counting, with_counts, with_history, opening, closing, probes, in_half_open, in_closed, settled, manual}
 use Rattle.breaker.specs.Calls.{after, kept}
 use Rattle.breaker.proofs.Keeps.{SoundAt, whole, sound-counts, sound-closed}
 use Rattle.breaker.proofs.Record.{sound→, shared→}

@@ -1,5 +1,4 @@
 -- A turn of the walk over saves. Assumes nothing.
-use Rattle.std.specs.Prelude.{if◌then◌else◌}
 use mathlib.Core.Path.{◌≡◌, refl, sym, ap, subst, ◌∙◌}
 use mathlib.Core.Bool.{Bool, true, false, ◌&&◌, ◌||◌, false≢true}
 use mathlib.Core.List.{List, [], ◌∷◌, ◌++◌, append_assoc, append-nil}
@@ -10,6 +9,7 @@ use lib.Dec.{eqb}
 use lib.ListN.{length, take, drop, set, length-append, length-drop, drop_of_length-le}
 use lib.Seq.{drop_at, drop-drop, take-suc-set}
 use borrow.Author.Tests.{eqb-true}
+use Rattle.std.proofs.Common.{if◌then◌else◌}
 use Rattle.error.proofs.Choice.{and_split}
 use Rattle.le_bytes.specs.Bytes.{number}
 use Rattle.blocks.specs.Block.{summed}

@@ -1,7 +1,7 @@
 -- Each answer of an abort and of a release, from the tests that led to it. Assumes nothing.
-use Rattle.std.proofs.Common.{◌≡◌, ℕ, Bool, true, false, ◌&&◌, eqb, ltb, List, sym, refl, ap, ◌∙◌, add-zero, arith, le-ltb, lt-ltb, eq-eqb, ne_eqb}
+use Rattle.std.proofs.Common.{◌≡◌, ℕ, Bool, true, false, ◌&&◌, eqb, ltb, List, sym, refl, ap, ◌∙◌, add-zero, arith, le-ltb, lt-ltb, eq-eqb, ne_eqb, if◌then◌else◌}
 use Rattle.error.specs.Told.{Told}
-use Rattle.error.specs.Choice.{if◌then◌else◌, bit}
+use Rattle.error.specs.Choice.{bit}
 use Rattle.history.specs.Items.{padded}
 use Rattle.trip.specs.declared.Config.{Config}
 use Rattle.breaker.specs.declared.Counts.{Counts}

@@ -1,7 +1,6 @@
 -- Each answer of an admission and of still_admits, from the tests that led to it, over any record that stores a state. Assumes nothing.
-use Rattle.std.proofs.Common.{◌≡◌, ℕ, ◌-◌, ◌<◌, ◌≤◌, Bool, true, false, sym, ap, ◌∙◌, ap₂, arith, le-ltb, lt-ltb, eq-eqb, ne_eqb, le-leb}
+use Rattle.std.proofs.Common.{◌≡◌, ℕ, ◌-◌, ◌<◌, ◌≤◌, Bool, true, false, sym, ap, ◌∙◌, ap₂, arith, le-ltb, lt-ltb, eq-eqb, ne_eqb, le-leb, if◌then◌else◌}
 use borrow.Author.Tests.{lt-leb}
-use Rattle.error.specs.Choice.{if◌then◌else◌}
 use Rattle.trip.specs.declared.Config.{Config}
 use Rattle.breaker.specs.declared.Counts.{Counts}
 use Rattle.breaker.specs.declared.Ticket.{Ticket}

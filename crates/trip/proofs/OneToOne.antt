@@ -4,7 +4,7 @@ use mathlib.Core.Path.{◌≡◌, refl, sym, ap, ◌∙◌}
 use mathlib.Core.List.{List}
 use lib.Dec.{eqb}
 use lib.ListN.{get_or}
-use Rattle.error.specs.Choice.{if◌then◌else◌}
+use Rattle.std.proofs.Common.{if◌then◌else◌}
 use Rattle.error.specs.Told.{Told}
 use Rattle.error.proofs.OneToOne.{named, named-number, number-not-0}
 use Rattle.trip.specs.declared.Millis.{Millis}

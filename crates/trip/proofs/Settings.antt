@@ -8,7 +8,7 @@ use lib.Dec.{T}
 use lib.ListN.{get_or}
 use borrow.Author.Tests.{eq-eqb, lt-ltb}
 use lib.Ieee.{Float, nan, inf, fin, up, down, lt, ne, is_nan}
-use Rattle.error.specs.Choice.{if◌then◌else◌}
+use Rattle.std.proofs.Common.{if◌then◌else◌}
 use Rattle.error.specs.Told.{Told, tell, refused}
 use Rattle.error.specs.declared.Refusal.{Refusal}
 use Rattle.error.specs.declared.Refusal.TheVariants.{Time, Limit}

@@ -1,8 +1,7 @@
 -- When a closed breaker trips, and the board figure.
-use Rattle.std.specs.Prelude.{ℕ, ◌*◌, ◌/◌, Bool, false, ◌&&◌, List, leb, eqb, length, Float}
+use Rattle.std.specs.Prelude.{ℕ, ◌*◌, ◌/◌, Bool, false, ◌&&◌, List, leb, eqb, length, Float, if◌then◌else◌}
 use Rattle.std.specs.Float.{binary64}
 use Rattle.std.specs.Float.Ieee.{of_bits, round, le}
-use Rattle.error.specs.Choice.{if◌then◌else◌}
 use Rattle.history.specs.Items.{failures, recent, cutoff_of}
 use Rattle.trip.specs.declared.Config.{Config}
 

@@ -1,8 +1,7 @@
 -- "Policies and settings": durations, normalising, and the settings of a record.
-use Rattle.std.specs.Prelude.{ℕ, ◌+◌, ◌-◌, ◌*◌, ◌/◌, ◌%◌, ◌^◌, min, max, Bool, true, false, not, List, [], ◌∷◌, pos, ltb, Float}
+use Rattle.std.specs.Prelude.{ℕ, ◌+◌, ◌-◌, ◌*◌, ◌/◌, ◌%◌, ◌^◌, min, max, Bool, true, false, not, List, [], ◌∷◌, pos, ltb, Float, if◌then◌else◌}
 use Rattle.std.specs.Float.{fin, binary64}
 use Rattle.std.specs.Float.Ieee.{lt, is_nan, to_bits}
-use Rattle.error.specs.Choice.{if◌then◌else◌}
 use Rattle.error.specs.Told.{Told, tell, refused}
 use Rattle.error.specs.declared.Refusal.TheVariants.{Time, Limit}
 use Rattle.trip.specs.declared.Duration.{Duration}

@@ -3,7 +3,7 @@ use Prim.Native.Nat.{ℕ}
 use mathlib.Core.Path.{◌≡◌, refl, ap, ◌∙◌}
 use mathlib.Core.List.{List, [], ◌∷◌}
 use lib.Dec.{eqb}
-use Rattle.error.specs.Choice.{if◌then◌else◌}
+use Rattle.std.proofs.Common.{if◌then◌else◌}
 use Rattle.error.proofs.OneToOne.{one, read, read-refused, at}
 use Rattle.wait.specs.declared.Act.{Act}
 use Rattle.wait.specs.declared.Act.TheVariants as ActIs

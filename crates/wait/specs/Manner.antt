@@ -1,6 +1,6 @@
 -- A manner of waiting, and what every manner makes of a turn and of a dropped wait. Definitions only.
-use Rattle.std.specs.Prelude.{ℕ, Bool, not, ◌&&◌, ◌||◌}
-use Rattle.error.specs.Choice.{if◌then◌else◌, bit}
+use Rattle.std.specs.Prelude.{ℕ, Bool, not, ◌&&◌, ◌||◌, if◌then◌else◌}
+use Rattle.error.specs.Choice.{bit}
 use Rattle.error.specs.Told.{Told}
 use Rattle.error.specs.declared.Refusal.{Refusal}
 use Rattle.error.specs.declared.Refusal.TheVariants as RefusalIs

@@ -1,6 +1,5 @@
 -- "Each run of turns has a limit and reports how many turns it took, which equals the steps of these rules." In any manner. Definitions only.
-use Rattle.std.specs.Prelude.{ℕ, zero, suc, ◌/◌, ◌%◌, Bool, List, [], ◌∷◌, eqb, length, take, drop, get_or}
-use Rattle.error.specs.Choice.{if◌then◌else◌}
+use Rattle.std.specs.Prelude.{ℕ, zero, suc, ◌/◌, ◌%◌, Bool, List, [], ◌∷◌, eqb, length, take, drop, get_or, if◌then◌else◌}
 use Rattle.error.specs.Told.{Told}
 use Rattle.error.specs.declared.Refusal.{Refusal}
 use Rattle.error.specs.declared.Refusal.TheVariants as RefusalIs

@@ -1,6 +1,5 @@
 -- "Waiting answers": what every manner of waiting shares: bounds, what remains, and retries. Definitions only.
-use Rattle.std.specs.Prelude.{ℕ, ◌+◌, ◌-◌, ◌^◌, min, Bool, true, false, ◌&&◌, eqb, leb, ltb}
-use Rattle.error.specs.Choice.{if◌then◌else◌}
+use Rattle.std.specs.Prelude.{ℕ, ◌+◌, ◌-◌, ◌^◌, min, Bool, true, false, ◌&&◌, eqb, leb, ltb, if◌then◌else◌}
 use Rattle.error.specs.declared.Refusal.TheVariants as RefusalIs
 use Rattle.wait.specs.declared.Wait.{Wait}
 use Rattle.wait.specs.declared.Observed.{Observed}

@@ -1,6 +1,5 @@
 -- The entry points of a wait before a breaker: each tests 3 and 4, then what the wait itself refuses (11, then 1), and then does what the rules say. Definitions only.
-use Rattle.std.specs.Prelude.{ℕ, Bool, List}
-use Rattle.error.specs.Choice.{if◌then◌else◌}
+use Rattle.std.specs.Prelude.{ℕ, Bool, List, if◌then◌else◌}
 use Rattle.error.specs.Told.{Told, refused}
 use Rattle.error.specs.declared.Refusal.TheVariants.{Storage}
 use Rattle.breaker.specs.declared.Breaker.{Breaker}

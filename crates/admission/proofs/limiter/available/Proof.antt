@@ -2,7 +2,7 @@
 use mathlib.Core.Path.{◌≡◌, sym, ap, ◌∙◌}
 use mathlib.Core.Bool.{true}
 use borrow.Author.Rules.{rules}
-use Rattle.error.specs.Choice.{if◌then◌else◌}
+use Rattle.std.proofs.Common.{if◌then◌else◌}
 use Rattle.breaker.specs.Record.{state, sound}
 use Rattle.breaker.specs.Answers.{is_acquired}
 use Rattle.breaker.specs.Calls as Calls

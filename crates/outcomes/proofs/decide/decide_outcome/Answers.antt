@@ -1,0 +1,37 @@
+-- `outcomes::decide::decide_outcome` meets its contract: the oldest goes before a full window, and the failures that stay are counted. Assumes nothing.
+use Prim.Native.Nat.{◌+◌, ◌-◌, ◌^◌, min}
+use native.Mathlib.Omega.{arith}
+use mathlib.Core.Path.{◌≡◌, ap, ◌∙◌}
+use lib.Ieee.{binary64, of_bits}
+use lib.ListN.{length}
+use Rattle.trip.specs.Policy.{ratio_reached}
+use Rattle.breaker.specs.declared.Breaker.{Breaker}
+use Rattle.breaker.specs.Record.{settings, items_for}
+use Rattle.outcomes.proofs.Deciding.{has-length, window-fits, failures-counted, outcome-good, outcome-failed}
+use Rattle.outcomes.proofs.decide.decide_outcome.Goals as goal
+
+pub overflow_sub-h : goal.overflow_sub-h
+overflow_sub-h c = omega (arith, c.over-gone.ensures.0)
+
+pub returns-then-success : goal.returns-then-success
+returns-then-success c =
+    λ ok cfg st reading h p.
+    let n = has-length c.args.b c.args.list.now cfg st h ok in
+    let f = window-fits c.args.b c.args.list.now cfg st h ok c.args.window (ap items_for p) in
+    let g : c.over-gone.result ≡ length st.list + 1 - c.args.window = omega (arith, c.over-gone.ensures.1 f.0 f.2, n) in
+    rw c.if-success.true (outcome-good (settings cfg) st reading c.args.window (of_bits binary64 cfg.ratio_bits) cfg.min_calls p f.0 c.over-gone.result g c.one_more-len.result (omega (arith, c.one_more-len.ensures, n, f)))
+
+pub overflow_cast-failed : goal.overflow_cast-failed
+overflow_cast-failed c = omega arith
+
+pub returns : goal.returns
+returns c =
+    λ ok cfg st reading h p.
+    let n = has-length c.args.b c.args.list.now cfg st h ok in
+    let f = window-fits c.args.b c.args.list.now cfg st h ok c.args.window (ap items_for p) in
+    let g : c.over-gone.result ≡ length st.list + 1 - c.args.window = omega (arith, c.over-gone.ensures.1 f.0 f.2, n) in
+    let k = failures-counted c.args.b c.args.list.now cfg st h ok c.args.window c.over-gone.result (ap items_for p) c.count_failures.result c.count_failures.ensures in
+    rw (c.counted.ensures, c.if-success.false)
+    (outcome-failed (settings cfg) st reading c.args.window (of_bits binary64 cfg.ratio_bits) cfg.min_calls p f.0 c.over-gone.result g c.one_more.result c.one_more-len.result c.one_more-2.result c.ratio_trips.result
+    (c.one_more.ensures ∙ ap (λ (x : Breaker). min (x.shared.run + 1) (2 ^ 32 - 1)) h.0) (omega (arith, c.one_more-len.ensures, n, f)) (omega (arith, c.one_more-2.ensures, k.0, k.1))
+    (c.ratio_trips.ensures ∙ ap (λ (x : Breaker). ratio_reached c.one_more-2.result c.one_more-len.result x.config.min_calls (of_bits binary64 x.config.ratio_bits)) h.0))

@@ -1,0 +1,17 @@
+-- `outcomes::decide::decide_run` meets its contract. Assumes nothing.
+use Prim.Native.Nat.{◌+◌, ◌-◌, ◌^◌, min}
+use mathlib.Core.Path.{ap, ◌∙◌}
+use lib.Dec.{leb}
+use Rattle.breaker.specs.declared.Breaker.{Breaker}
+use Rattle.breaker.specs.Record.{settings}
+use Rattle.outcomes.proofs.Deciding.{run-good, run-failed}
+use Rattle.outcomes.proofs.decide.decide_run.Goals as goal
+
+pub returns-then-success : goal.returns-then-success
+returns-then-success c = λ cfg st reading e p. rw c.if-success.true (run-good (settings cfg) st reading cfg.limit p c.args.b.shared.len (ap (λ (x : Breaker). x.shared.len) e))
+
+pub returns : goal.returns
+returns c =
+    λ cfg st reading e p. rw (c.counted.ensures, c.if-success.false)
+    (run-failed (settings cfg) st reading cfg.limit p c.one_more-run.result c.args.b.shared.len c.run_trips.result (c.one_more-run.ensures ∙ ap (λ (x : Breaker). min (x.shared.run + 1) (2 ^ 32 - 1)) e)
+    (ap (λ (x : Breaker). x.shared.len) e) (c.run_trips.ensures ∙ ap (λ (x : Breaker). leb x.config.limit c.one_more-run.result) e))
