@@ -1,24 +1,23 @@
 -- Laws of a block: the sum of its bytes, what it holds, and that it is known by what is read of it. Assumes nothing.
+use Rattle.std.specs.Prelude.{if◌then◌else◌}
 use mathlib.Core.Path.{◌≡◌, refl, sym, ap, ◌∙◌}
 use mathlib.Core.Bool.{Bool, true, false, ◌&&◌, false≢true}
 use mathlib.Core.List.{List, [], ◌∷◌, ◌++◌, append_assoc, append-nil}
 use Prim.Native.Nat.{ℕ, zero, suc, ◌+◌, ◌-◌, ◌*◌, ◌^◌, ◌<◌, ◌≤◌}
-use native.Mathlib.Nat.{mul-le-mul, add_assoc}
-use native.Mathlib.Numerals.{add-one}
+use native.Mathlib.Nat.{mul-le-mul}
 use native.Mathlib.Omega.{arith}
-use lib.ListN.{length, get_or, take, drop, set, replicate, length-append, length-take, length-replicate, length-drop, take-append-drop, drop_of_length-le}
-use lib.Seq.{take_at, drop_at, take_all, take-take, take-append-le, drop-append-le, drop-append-add, drop-drop, length-take-le, take-add}
+use lib.ListN.{length, get_or, take, drop, replicate, length-append, length-take, length-replicate, length-drop, take-append-drop, drop_of_length-le}
+use lib.Seq.{take_at, drop_at, take_all, take-take, take-append-le, drop-drop, length-take-le, take-add}
 use lib.Dec.{ltb, leb, eqb}
-use borrow.Author.Tests.{ltb-true, ltb-false, leb-true, leb-false, eqb-true, lt-ltb, le-ltb, le-leb, lt-leb, eq-eqb, ne_eqb}
-use Rattle.le_bytes.specs.Bytes.{bytes, number, encoded, decoded, Bytes, Fit, room}
-use Rattle.std.proofs.Common.{if◌then◌else◌}
+use borrow.Author.Tests.{ltb-true, ltb-false, leb-true, eqb-true}
+use Rattle.le_bytes.specs.Bytes.{bytes, number, encoded, decoded, Bytes, room}
 use Rattle.le_bytes.specs.Bytes.{written, put_at}
 use Rattle.error.proofs.Choice.{and_split}
 use Rattle.blocks.specs.Block.{sum_from, headed, filled, block, may_hold, zeros, summed, version_in, index_in, count_in, used_in}
 use Rattle.blocks.specs.Run.{UsedIn}
 use Rattle.le_bytes.proofs.Little.{front, length-bytes, bytes-number, number-bytes, bytes_take, bytes_drop}
-use Rattle.le_bytes.proofs.Written.{put_in, written-written, written_after, written_from, written-head, written-nil, written-mid, written-whole, length-written}
-use Rattle.le_bytes.proofs.Widths.{length-encoded, decoded-encoded, encoded-decoded}
+use Rattle.le_bytes.proofs.Written.{put_in, written_after, written_from, written-mid, written-whole, length-written}
+use Rattle.le_bytes.proofs.Widths.{decoded-encoded, encoded-decoded}
 
 -- ---- the sum
 -- a term is at most 255 * 504

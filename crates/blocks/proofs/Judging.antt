@@ -1,4 +1,5 @@
 -- What the check of a block meets, by its tests, and what is known where it passes. Assumes nothing.
+use Rattle.std.specs.Prelude.{if◌then◌else◌}
 use mathlib.Core.Path.{◌≡◌, refl, sym, ap, ◌∙◌}
 use mathlib.Core.Bool.{Bool, true, false, not, ◌&&◌, false≢true}
 use mathlib.Core.List.{List, []}
@@ -7,14 +8,12 @@ use native.Mathlib.Omega.{arith}
 use lib.Dec.{eqb}
 use lib.ListN.{length, take, drop}
 use borrow.Author.Tests.{eqb-true, eq-eqb, ne_eqb}
-use Rattle.std.proofs.Common.{if◌then◌else◌}
 use Rattle.error.specs.declared.Refusal.{Refusal}
 use Rattle.error.specs.declared.Refusal.TheVariants.{Damaged, Version}
-use Rattle.error.proofs.Choice.{and_split, if-cases}
-use Rattle.le_bytes.specs.Bytes.{Bytes, number}
+use Rattle.error.proofs.Choice.{and_split}
 use Rattle.blocks.specs.declared.Judged.{Judged}
 use Rattle.blocks.specs.declared.Judged.TheVariants.{Passes, Refused}
-use Rattle.blocks.specs.Block.{may_hold, zeros, version_in, index_in, count_in, used_in, summed, versioned, proper, judged_block, used_body}
+use Rattle.blocks.specs.Block.{may_hold, zeros, index_in, count_in, used_in, summed, versioned, proper, judged_block, used_body}
 use Rattle.blocks.proofs.Blocks.{Reads, may-some, reads-index, reads-count, reads-used}
 
 -- ---- header and zeros

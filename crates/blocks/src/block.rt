@@ -5,8 +5,8 @@ ghost use Rattle.blocks.specs.Block.{block, judged_block, known, may_hold, prope
 ghost use Rattle.blocks.specs.declared.Judged.TheVariants.{Passes, Refused};
 
 use crate::{BLOCK, BODY, BODY_AT, Judged, SUM_AT, SUM_OVER};
-use le_bytes::{copy, number_at, put_number, zero};
 use error::Refusal;
+use le_bytes::{copy, number_at, put_number, zero};
 
 // The sum of byte × (position + 1).
 fn weighed(s: &[u8]) -> u32

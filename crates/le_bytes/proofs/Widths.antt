@@ -2,7 +2,7 @@
 use mathlib.Core.Path.{◌≡◌, refl, sym, ap, ◌∙◌}
 use mathlib.Core.Bool.{false}
 use mathlib.Core.List.{List, [], ◌∷◌, ◌++◌, append_assoc, append-nil}
-use Prim.Native.Nat.{ℕ, zero, suc, ◌+◌, ◌*◌, ◌/◌, ◌%◌, ◌^◌, ◌<◌, ◌≤◌}
+use Prim.Native.Nat.{ℕ, zero, suc, ◌+◌, ◌*◌, ◌<◌, ◌≤◌}
 use native.Mathlib.Nat.{suc-mul, zero-mul, pow-le-pow_right}
 use native.Mathlib.Numerals.{add-one}
 use native.Mathlib.Omega.{arith}
@@ -18,6 +18,8 @@ use Rattle.le_bytes.proofs.Little.{front, length-bytes, bytes-bytes, number-byte
 pub length-encoded : (ws vs : List ℕ) → Fit ws vs → length (encoded ws vs) ≡ room ws
 unfolding encoded room
 length-encoded [] [] f = refl
+length-encoded [] (v ∷ vs) f = absurd f
+length-encoded (w ∷ ws) [] f = absurd f
 length-encoded (w ∷ ws) (v ∷ vs) f = simp (length-append, length-bytes, length-encoded ws vs f.1)
 
 -- whatever the numbers are
@@ -38,6 +40,8 @@ bytes-encoded (w ∷ ws) (v ∷ vs) = bytes-append (bytes w v) (encoded ws vs) (
 pub decoded-encoded : (ws vs rest : List ℕ) → Fit ws vs → decoded ws (encoded ws vs ++ rest) ≡ vs
 unfolding encoded decoded
 decoded-encoded [] [] rest f = refl
+decoded-encoded [] (v ∷ vs) rest f = absurd f
+decoded-encoded (w ∷ ws) [] rest f = absurd f
 decoded-encoded (w ∷ ws) (v ∷ vs) rest f =
     let more = encoded ws vs ++ rest in
     rw (append_assoc, take_at (bytes w v) more w (length-bytes w v), drop_at (bytes w v) more w (length-bytes w v), number-bytes w v f.0, decoded-encoded ws vs rest f.1)
@@ -140,6 +144,8 @@ Wider (w ∷ ws) (u ∷ us) = (w ≤ u) × Wider ws us
 
 pub fit-wider : (ws us vs : List ℕ) → Wider ws us → Fit ws vs → Fit us vs
 fit-wider [] [] vs l f = f
+fit-wider [] (u ∷ us) vs l f = absurd l
+fit-wider (w ∷ ws) [] vs l f = absurd l
 fit-wider (w ∷ ws) (u ∷ us) [] l f = f
 fit-wider (w ∷ ws) (u ∷ us) (v ∷ vs) l f =
     (omega (arith, f.0, pow-le-pow_right {n = 256} (omega arith) {i = w} {j = u} l.0), fit-wider ws us vs l.1 f.1)

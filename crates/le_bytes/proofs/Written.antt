@@ -1,6 +1,6 @@
 -- Bytes written over a buffer: one, and one run after another. Assumes nothing.
 use mathlib.Core.Path.{◌≡◌, refl, sym, ap, ◌∙◌}
-use mathlib.Core.Bool.{Bool, true, false, ◌&&◌}
+use mathlib.Core.Bool.{Bool, true, false}
 use mathlib.Core.List.{List, [], ◌∷◌, ◌++◌, append_assoc, append-nil}
 use Prim.Native.Nat.{ℕ, zero, suc, ◌+◌, ◌-◌, ◌*◌, ◌/◌, ◌%◌, ◌≤◌, ◌<◌}
 use native.Mathlib.Nat.{add_assoc, add-zero, zero-add, mul-le-mul}
@@ -9,8 +9,8 @@ use native.Mathlib.Omega.{arith}
 use lib.ListN.{length, take, drop, replicate, get_or, set, length-append, length-drop, take-append-drop, drop_of_length-le}
 use lib.Dec.{leb}
 use borrow.Author.Tests.{le-leb, lt-leb, leb-true, leb-false}
-use lib.Seq.{set_split, take_all, take_at, drop_at, drop-append-add, drop-drop, drop-cons, length-take-le}
-use Rattle.le_bytes.specs.Bytes.{bytes, number, encoded, decoded, within, written, put_at, put_items, number_at, items_at}
+use lib.Seq.{set_split, take_at, drop-append-add, drop-drop, length-take-le}
+use Rattle.le_bytes.specs.Bytes.{bytes, number, decoded, written, put_at, number_at, items_at}
 use Rattle.le_bytes.proofs.Little.{front}
 
 pub set-written : (s : List ℕ) (at x : ℕ) → at < length s → set s at x ≡ written at (x ∷ []) s
