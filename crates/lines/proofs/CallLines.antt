@@ -2,7 +2,7 @@
 use mathlib.Core.Path.{◌≡◌, refl, sym}
 use mathlib.Core.Bool.{Bool, true, false}
 use mathlib.Core.List.{List, [], ◌∷◌, ◌++◌, append_assoc}
-use Prim.Native.Nat.{ℕ, zero, suc, ◌+◌, ◌≤◌, ◌<◌, ◌^◌}
+use Prim.Native.Nat.{ℕ, zero, suc, ◌≤◌, ◌<◌, ◌^◌}
 use native.Mathlib.Omega.{arith}
 use lib.ListN.{length, take, drop, get_or}
 use lib.Seq.{get_or-take}
@@ -66,6 +66,7 @@ unfolding print_all print_fields
 ticket-back k bs vs rest make t h e = let b = rest_back ticket bs vs rest e in go vs b.0 b.1
   where
     go : (vs : List ℕ) → Within ticket vs → bs ≡ print_all ticket vs ++ (10 ∷ rest) → Order t k bs (make (get_or vs 0 0) (eqb (get_or vs 1 0) 1)) rest
+    go [] w e = elim w [ ]
     go (g ∷ []) w e = absurd w.1
     go (g ∷ p ∷ v ∷ vs) w e = absurd w.1.1
     go (g ∷ p ∷ []) w e =
