@@ -1,10 +1,11 @@
 -- A choice by its cases, two tests that both hold, a test that is read back from its number, and a number as a test. Assumes nothing.
+use Rattle.std.specs.Prelude.{if◌then◌else◌}
 use Prim.Native.Nat.{ℕ}
 use mathlib.Core.Path.{◌≡◌, refl}
 use mathlib.Core.Bool.{Bool, true, false, ◌&&◌, false≢true}
 use lib.Dec.{eqb}
 use borrow.Author.Tests.{eq-eqb, ne_eqb}
-use Rattle.error.specs.Choice.{if◌then◌else◌, bit, flag_of}
+use Rattle.error.specs.Choice.{bit, flag_of}
 
 pub if-cases : {A : Type 0} (P : A → Type 0) (x : Bool) {a b : A} → (x ≡ true → P a) → (x ≡ false → P b) → P (if x then a else b)
 if-cases P true f g = f refl

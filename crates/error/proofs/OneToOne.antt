@@ -1,4 +1,5 @@
 -- A refusal is known by its number, and an answer that is read back from what it tells is known by that. Assumes nothing.
+use Rattle.std.specs.Prelude.{if◌then◌else◌}
 use Prim.Native.Nat.{ℕ}
 use mathlib.Core.Path.{◌≡◌, refl, sym, ap, ◌∙◌}
 use mathlib.Core.Bool.{true, false, ◌&&◌, false≢true}
@@ -8,7 +9,6 @@ use lib.ListN.{get_or}
 use borrow.Author.Tests.{eq-eqb}
 use Rattle.error.specs.declared.Refusal.{Refusal}
 use Rattle.error.specs.declared.Refusal.TheVariants.{Time, Limit, Storage, Unsound, Full, Turn, Damaged, Version, Name}
-use Rattle.error.specs.Choice.{if◌then◌else◌}
 use Rattle.error.specs.Told.{Told, tell, number_of, refused}
 
 abbrev pub named : ℕ → Refusal

@@ -1,4 +1,5 @@
 -- Laws of a call's line: what is printed is taken again, and what is taken was printed. Assumes nothing.
+use Rattle.std.specs.Prelude.{if◌then◌else◌}
 use mathlib.Core.Path.{◌≡◌, refl, sym}
 use mathlib.Core.Bool.{Bool, true, false}
 use mathlib.Core.List.{List, [], ◌∷◌, ◌++◌, append_assoc}
@@ -8,7 +9,7 @@ use lib.ListN.{length, take, drop, get_or}
 use lib.Seq.{get_or-take}
 use lib.Dec.{eqb}
 use borrow.Author.Tests.{eqb-true}
-use Rattle.error.specs.Choice.{if◌then◌else◌, bit}
+use Rattle.error.specs.Choice.{bit}
 use Rattle.error.proofs.Choice.{bit-back}
 use Rattle.lines.specs.Print.{print_decimal, print_fields, print_call, reading_of, letter_of, fields_of, AllFit, CallFits}
 use Rattle.lines.specs.Take.{got, none, max64, digit_of, take_number, take_rest, print_all, Within, limits_of, made_call, take_kind, take_letter, take_call, seen_call, call_end}

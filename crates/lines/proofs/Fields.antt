@@ -1,4 +1,5 @@
 -- Laws of the fields behind a letter: what is printed is taken again, and what is taken was printed. Assumes nothing.
+use Rattle.std.specs.Prelude.{if◌then◌else◌}
 use mathlib.Core.Path.{◌≡◌, refl, ap}
 use mathlib.Core.Bool.{Bool, true, false}
 use mathlib.Core.List.{List, [], ◌∷◌, ◌++◌, append_assoc}
@@ -9,7 +10,6 @@ use lib.Seq.{take-suc-set}
 use lib.ListN.{length, take, drop, get_or, set}
 use lib.Dec.{eqb}
 use borrow.Author.Tests.{eqb-true}
-use Rattle.error.specs.Choice.{if◌then◌else◌}
 use Rattle.lines.specs.Print.{print_decimal, print_hex16}
 use Rattle.lines.specs.Take.{Taken, got, none, bound, digit_of, take_number, take_hex, max64, top, print_as, print_all, take_field, ahead, take_rest, Within}
 use Rattle.lines.proofs.Numbers.{stops, number-there, number-back, hex16-there, hex16-back, front}

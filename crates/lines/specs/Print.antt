@@ -1,6 +1,6 @@
 -- "The archive journal": how its numbers and lines are printed. Definitions only.
-use Rattle.std.specs.Prelude.{ℕ, zero, suc, ◌+◌, ◌/◌, ◌%◌, ◌^◌, ◌<◌, List, [], ◌∷◌, ◌++◌, ltb}
-use Rattle.error.specs.Choice.{if◌then◌else◌, bit}
+use Rattle.std.specs.Prelude.{ℕ, zero, suc, ◌+◌, ◌/◌, ◌%◌, ◌^◌, ◌<◌, List, [], ◌∷◌, ◌++◌, ltb, if◌then◌else◌}
+use Rattle.error.specs.Choice.{bit}
 use Rattle.lines.specs.declared.Call.{Call}
 use Rattle.lines.specs.declared.Call.TheVariants.{Admit, Success, Failure, Abort, Reset}
 use Rattle.lines.specs.declared.Header.{Header}

@@ -1,6 +1,5 @@
 -- Internal: what the readers take from the front of a list of bytes. The promises of Reads follow from it by laws, so nobody need believe it.
-use Rattle.std.specs.Prelude.{ℕ, zero, suc, ◌+◌, ◌*◌, ◌-◌, ◌^◌, ◌≤◌, Bool, ◌&&◌, List, [], ◌∷◌, ◌++◌, drop, get_or, ltb, leb, eqb}
-use Rattle.error.specs.Choice.{if◌then◌else◌}
+use Rattle.std.specs.Prelude.{ℕ, zero, suc, ◌+◌, ◌*◌, ◌-◌, ◌^◌, ◌≤◌, Bool, ◌&&◌, List, [], ◌∷◌, ◌++◌, drop, get_or, ltb, leb, eqb, if◌then◌else◌}
 use Rattle.lines.specs.Print.{print_decimal, print_hex16}
 use Rattle.lines.specs.declared.Number.{Number}
 use Rattle.lines.specs.declared.Number.TheVariants.{Value, Bad}
