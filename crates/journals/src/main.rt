@@ -7,7 +7,8 @@ ghost use Rattle.std.specs.Prelude.{◌≡◌, ◌≤◌, ◌<◌, min, length};
 
 use history::PLACES;
 use journal::{ROOM, Replayed};
-use libc::{STDIN_FILENO, STDOUT_FILENO};
+use std::io;
+use std::io::{Read, Write};
 
 // Where a journal begins, where its expected output does, and where that ends.
 #[derive(Clone, Copy)]
@@ -15,6 +16,11 @@ struct Case {
     journal: usize,
     expected: usize,
     end: usize,
+}
+
+// Room for the container. One that does not fit is cut, and its last journal differs.
+fn input_buffer() -> [u8; 2700000] {
+    [0; 2700000]
 }
 
 fn output_buffer() -> [u8; ROOM] {
@@ -92,22 +98,19 @@ fn case_at(s: &[u8], at: usize) -> Case
 // Whether the journal's answer is the expected one.
 fn agrees(journal: &[u8], expected: &[u8], list: &mut [u64], out: &mut [u8]) -> bool {
     match journal::replay(journal, list, out) {
-        Replayed::Written(n) => check::same(&out[..n], expected),
+        Replayed::Written(n) => &out[..n] == expected,
         Replayed::TooSmall => false,
         Replayed::Refused(_) => false,
     }
 }
 
 // A name and a number on a line.
-fn show(name: &[u8], n: u64) {
-    io::write_all(STDOUT_FILENO, name);
-    io::write_all(STDOUT_FILENO, b" ");
-    io::print_decimal(STDOUT_FILENO, n);
-    io::write_all(STDOUT_FILENO, b"\n");
+fn show(rt: &HostRuntime, name: &str, n: u64) {
+    let _ = println!(rt; "{name} {n}");
 }
 
 // Replays all of a container.
-fn replay_all(s: &[u8], list: &mut [u64], out: &mut [u8]) {
+fn replay_all(rt: &HostRuntime, s: &[u8], list: &mut [u64], out: &mut [u8]) {
     let mut at: usize = 0;
     let mut journals: u64 = 0;
     let mut differ: u64 = 0;
@@ -119,23 +122,39 @@ fn replay_all(s: &[u8], list: &mut [u64], out: &mut [u8]) {
         journals += 1;
         if !agrees(&s[start..expected], &s[expected..end], list, out) {
             differ += 1;
-            show(b"difference in journal", journals);
+            show(rt, "difference in journal", journals);
         }
         at = end;
     }
-    show(b"journals", journals);
-    show(b"differ", differ);
+    show(rt, "journals", journals);
+    show(rt, "differ", differ);
 }
 
-fn run(s: &[u8]) {
+fn run(rt: &HostRuntime, s: &[u8]) {
     let mut list = places();
     let mut out = output_buffer();
-    replay_all(s, &mut list, &mut out);
+    replay_all(rt, s, &mut list, &mut out);
 }
 
-fn main() {
-    // Room for the container. One that does not fit is cut, and its last journal differs.
-    let mut input = [0; 2700000];
-    let n = io::read_full(STDIN_FILENO, &mut input);
-    run(&input[..n]);
+// Reads until the buffer is full, the input ends or a read fails, and tells how many bytes came.
+fn read_full<R: Read>(input: &mut R, buf: &mut [u8]) -> usize
+    ensures { result ≤ length buf.new }
+{
+    let mut n: usize = 0;
+    while n < buf.len() {
+        let Ok(came) = input.read(&mut buf[n..]) else {
+            return n;
+        };
+        if came == 0 {
+            return n;
+        }
+        n += came;
+    }
+    n
+}
+
+fn main(rt: HostRuntime) {
+    let mut input = input_buffer();
+    let n = read_full(&mut rt.stdin(), &mut input);
+    run(&rt, &input[..n]);
 }

@@ -1,14 +1,14 @@
 -- Laws of a call's line: what is printed is taken again, and what is taken was printed. Assumes nothing.
+use Rattle.std.specs.Prelude.{if◌then◌else◌}
 use mathlib.Core.Path.{◌≡◌, refl, sym}
 use mathlib.Core.Bool.{Bool, true, false}
 use mathlib.Core.List.{List, [], ◌∷◌, ◌++◌, append_assoc}
-use Prim.Native.Nat.{ℕ, zero, suc, ◌+◌, ◌≤◌, ◌<◌, ◌^◌}
+use Prim.Native.Nat.{ℕ, zero, suc, ◌≤◌, ◌<◌, ◌^◌}
 use native.Mathlib.Omega.{arith}
 use lib.ListN.{length, take, drop, get_or}
 use lib.Seq.{get_or-take}
 use lib.Dec.{eqb}
 use borrow.Author.Tests.{eqb-true}
-use Rattle.std.proofs.Common.{if◌then◌else◌}
 use Rattle.error.specs.Choice.{bit}
 use Rattle.error.proofs.Choice.{bit-back}
 use Rattle.lines.specs.Print.{print_decimal, print_fields, print_call, reading_of, letter_of, fields_of, AllFit, CallFits}
@@ -67,6 +67,7 @@ unfolding print_all print_fields
 ticket-back k bs vs rest make t h e = let b = rest_back ticket bs vs rest e in go vs b.0 b.1
   where
     go : (vs : List ℕ) → Within ticket vs → bs ≡ print_all ticket vs ++ (10 ∷ rest) → Order t k bs (make (get_or vs 0 0) (eqb (get_or vs 1 0) 1)) rest
+    go [] w e = elim w [ ]
     go (g ∷ []) w e = absurd w.1
     go (g ∷ p ∷ v ∷ vs) w e = absurd w.1.1
     go (g ∷ p ∷ []) w e =

@@ -1,4 +1,5 @@
 -- Laws of the fields behind a letter: what is printed is taken again, and what is taken was printed. Assumes nothing.
+use Rattle.std.specs.Prelude.{if◌then◌else◌}
 use mathlib.Core.Path.{◌≡◌, refl, ap}
 use mathlib.Core.Bool.{Bool, true, false}
 use mathlib.Core.List.{List, [], ◌∷◌, ◌++◌, append_assoc}
@@ -9,7 +10,6 @@ use lib.Seq.{take-suc-set}
 use lib.ListN.{length, take, drop, get_or, set}
 use lib.Dec.{eqb}
 use borrow.Author.Tests.{eqb-true}
-use Rattle.std.proofs.Common.{if◌then◌else◌}
 use Rattle.lines.specs.Print.{print_decimal, print_hex16}
 use Rattle.lines.specs.Take.{Taken, got, none, bound, digit_of, take_number, take_hex, max64, top, print_as, print_all, take_field, ahead, take_rest, Within}
 use Rattle.lines.proofs.Numbers.{stops, number-there, number-back, hex16-there, hex16-back, front}
@@ -40,6 +40,8 @@ field-there l v rest h s = go (eqb l 0) h
 pub rest-there : (ls vs rest : List ℕ) → Within ls vs → take_rest ls (print_all ls vs ++ (10 ∷ rest)) ≡ got vs rest
 unfolding take_rest print_all
 rest-there [] [] rest w = refl
+rest-there [] (v ∷ vs) rest w = elim w [ ]
+rest-there (l ∷ ls) [] rest w = elim w [ ]
 rest-there (l ∷ ls) (v ∷ vs) rest w =
     rw (append_assoc, field-there l v (print_all ls vs ++ (10 ∷ rest)) w.0 (stops-rest ls vs rest), rest-there ls vs rest w.1)
 
@@ -100,11 +102,15 @@ rest-bad limits vs bs i h e = rw (front limits i h, e)
 -- ---- the values taken, one by one
 within-length : (ls vs : List ℕ) → Within ls vs → length vs ≡ length ls
 within-length [] [] w = refl
+within-length [] (v ∷ vs) w = elim w [ ]
+within-length (l ∷ ls) [] w = elim w [ ]
 within-length (l ∷ ls) (v ∷ vs) w = ap suc (within-length ls vs w.1)
 
 -- as many as there are limits, each within its own
 pub within-at : (ls vs : List ℕ) → Within ls vs → (i : ℕ) → i < length ls → get_or vs i 0 ≤ top (get_or ls i 0)
 within-at [] [] w i h = absurd (omega arith)
+within-at [] (v ∷ vs) w i h = elim w [ ]
+within-at (l ∷ ls) [] w i h = elim w [ ]
 within-at (l ∷ ls) (v ∷ vs) w zero h = w.0
 within-at (l ∷ ls) (v ∷ vs) w (suc i) h = within-at ls vs w.1 i (omega arith)
 

@@ -1,14 +1,14 @@
 -- Laws of the header's line: what is printed is taken again, and what is taken was printed. Assumes nothing.
+use Rattle.std.specs.Prelude.{if◌then◌else◌}
 use mathlib.Core.Path.{◌≡◌, refl, sym, ap}
 use mathlib.Core.Bool.{Bool, true, false}
 use mathlib.Core.List.{List, [], ◌∷◌, ◌++◌, append_assoc}
-use Prim.Native.Nat.{ℕ, ◌+◌, ◌≤◌, ◌<◌, ◌^◌}
+use Prim.Native.Nat.{ℕ, ◌≤◌, ◌<◌, ◌^◌}
 use native.Mathlib.Omega.{arith}
 use lib.ListN.{length, take, drop, get_or}
 use lib.Seq.{get_or-take}
 use lib.Dec.{eqb}
 use borrow.Author.Tests.{eqb-true}
-use Rattle.std.proofs.Common.{if◌then◌else◌}
 use Rattle.lines.specs.Print.{print_decimal, print_hex16, print_fields, print_header, HeaderFits}
 use Rattle.lines.specs.Take.{got, none, max32, take_rest, print_all, Within, limits_of, made_header, take_header, seen_header, header_end}
 use Rattle.lines.specs.Reads.{HeaderRead}

@@ -1,4 +1,5 @@
 -- Laws of numbers in bytes: what is printed is taken again, and what is taken was printed. Assumes nothing.
+use Rattle.std.specs.Prelude.{if◌then◌else◌}
 use mathlib.Core.Path.{◌≡◌, refl, sym, ◌∙◌}
 use mathlib.Core.Bool.{Bool, true, false, ◌&&◌}
 use mathlib.Core.List.{List, [], ◌∷◌, ◌++◌, append_assoc}
@@ -10,7 +11,6 @@ use lib.ListN.{length, drop, get_or, drop_of_length-le}
 use lib.Seq.{drop-cons}
 use lib.Dec.{ltb, leb, eqb}
 use borrow.Author.Tests.{ltb-true, ltb-false, leb-true, leb-false, eqb-true, eqb-false, lt-ltb, le-ltb, le-leb, lt-leb, ne_eqb}
-use Rattle.std.proofs.Common.{if◌then◌else◌}
 use Rattle.lines.specs.Print.{decimal_in, print_decimal, glyph, hex_in, print_hex16}
 use Rattle.lines.specs.Take.{got, none, digit_of, room_for, take_digits, take_number, take_hex}
 

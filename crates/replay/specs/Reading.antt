@@ -1,13 +1,13 @@
 -- How the program reads. Which bytes come, no contract can say. Definitions only.
-use Rattle.std.specs.Prelude.{ℕ, zero, suc, ◌+◌, ◌<◌, ◌≤◌, ◌≡◌, List, ℤ, pos, negsuc, length}
+use Rattle.std.specs.Prelude.{ℕ, zero, suc, ◌+◌, ◌<◌, ◌≤◌, ◌≡◌, List, length, Result, Ok, Err}
 use Rattle.replay.specs.declared.Input.{Input}
 use Rattle.replay.specs.declared.Input.TheVariants.{Whole, More, Failed}
 
--- after n bytes, by what a read answered: less than 0 where it failed, 0 at the end of the input, else how many bytes it brought
-abbrev pub came_after : ℕ → ℤ → Input
-came_after n (negsuc k) = Failed
-came_after n (pos zero) = Whole n
-came_after n (pos (suc k)) = More (n + suc k)
+-- after n bytes, by what a read answered: an error where it failed, 0 at the end of the input, else how many bytes it brought
+abbrev pub came_after : {E : Type 0} → ℕ → Result ℕ E → Input
+came_after n (Err e) = Failed
+came_after n (Ok zero) = Whole n
+came_after n (Ok (suc k)) = More (n + suc k)
 
 -- after n bytes, by one read into so much room
 abbrev pub Grown : ℕ → ℕ → Input → Type 0

@@ -3,12 +3,13 @@
 #![tactic(auto)]
 
 ghost use Rattle.std.specs.Prelude.{◌+◌, ◌<◌, ◌^◌, ◌≡◌, length};
-ghost use Rattle.libc.specs.Io.{Moved};
+ghost use Rattle.std.specs.Io.{ReadsAtMost};
 ghost use Rattle.replay.specs.Reading.{came_after, Grown, Came};
 
 use history::PLACES;
 use journal::{READ, ROOM};
-use libc::{STDERR_FILENO, STDIN_FILENO, STDOUT_FILENO};
+use std::io;
+use std::io::{Read, Write};
 
 // What has come: all of the input, so many bytes of it and maybe more to come, or nothing to go by, as a read failed.
 #[derive(Clone, Copy)]
@@ -31,14 +32,13 @@ fn places() -> [u64; PLACES] {
 }
 
 // What has come once a read into `buf`, after n bytes, answered `got`.
-fn after(n: usize, got: isize, buf: &[u8]) -> Input
-    requires { (n + length buf.now < 2 ^ 64) × Moved (length buf.now) got }
+fn after(n: usize, got: io::Result<usize>, buf: &[u8]) -> Input
+    requires { (n + length buf.now < 2 ^ 64) × ReadsAtMost got buf.now }
     ensures { result ≡ came_after n got }
 {
-    if got < 0 {
+    let Ok(bytes) = got else {
         return Input::Failed;
-    }
-    let bytes = io::count(got, buf);
+    };
     if bytes == 0 {
         return Input::Whole(n);
     }
@@ -46,21 +46,21 @@ fn after(n: usize, got: isize, buf: &[u8]) -> Input
 }
 
 // One read, after n bytes.
-fn read_some(buf: &mut [u8], n: usize) -> Input
+fn read_some<R: Read>(input: &mut R, buf: &mut [u8], n: usize) -> Input
     requires { n + length buf.old < 2 ^ 64 }
     ensures { Grown n (length buf.old) result }
 {
-    let got = libc::read(STDIN_FILENO, buf);
+    let got = input.read(buf);
     after(n, got, buf)
 }
 
 // Reads until the input ends, the buffer is full or a read fails.
-fn read_input(buf: &mut [u8]) -> Input
+fn read_input<R: Read>(input: &mut R, buf: &mut [u8]) -> Input
     ensures { Came buf.new result }
 {
     let mut n: usize = 0;
     while n < buf.len() {
-        let came = read_some(&mut buf[n..], n);
+        let came = read_some(input, &mut buf[n..], n);
         let Input::More(m) = came else {
             return came;
         };
@@ -69,29 +69,29 @@ fn read_input(buf: &mut [u8]) -> Input
     Input::More(n)
 }
 
-fn complain(text: &[u8]) {
-    io::write_all(STDERR_FILENO, text);
+fn complain(rt: &HostRuntime, text: &[u8]) {
+    let _ = rt.stderr().write_all(text);
 }
 
-fn show(out: &[u8]) {
-    if !io::write_all(STDOUT_FILENO, out) {
-        complain(b"replay: standard output could not be written\n");
+fn show(rt: &HostRuntime, out: &[u8]) {
+    if rt.stdout().write_all(out).is_err() {
+        complain(rt, b"replay: standard output could not be written\n");
     }
 }
 
 // Answers the journal of which n bytes were read.
-fn answer(input: &[u8; READ], n: usize) {
+fn answer(rt: &HostRuntime, input: &[u8; READ], n: usize) {
     let mut list = places();
     let mut out = output_buffer();
     let end = journal::replay_read(input, n, &mut list, &mut out);
-    show(&out[..end]);
+    show(rt, &out[..end]);
 }
 
-fn main() {
+fn main(rt: HostRuntime) {
     let mut buffer = input_buffer();
-    match read_input(&mut buffer) {
-        Input::Whole(n) => answer(&buffer, n),
-        Input::More(n) => answer(&buffer, n),
-        Input::Failed => complain(b"replay: standard input could not be read\n"),
+    match read_input(&mut rt.stdin(), &mut buffer) {
+        Input::Whole(n) => answer(&rt, &buffer, n),
+        Input::More(n) => answer(&rt, &buffer, n),
+        Input::Failed => complain(&rt, b"replay: standard input could not be read\n"),
     }
 }

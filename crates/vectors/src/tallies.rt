@@ -1,6 +1,6 @@
 // What the program counts, and the names under which it shows it.
 use crate::lines::line_end;
-use libc::STDOUT_FILENO;
+use std::io::Write;
 
 // The tallies stand in the order in which they are shown. From 1 on those of the operations, each at its own number.
 pub(crate) type Tallies = [u64; 38];
@@ -50,31 +50,30 @@ pub(crate) fn tally_told(t: &mut Tallies, number: u64) {
 }
 
 // A name and a number on a line, or nothing where there is no name.
-pub(crate) fn show(name: &[u8], n: u64) {
+pub(crate) fn show(rt: &HostRuntime, name: &[u8], n: u64) {
     if 0 < name.len() {
-        io::write_all(STDOUT_FILENO, name);
-        io::write_all(STDOUT_FILENO, b" ");
-        io::print_decimal(STDOUT_FILENO, n);
-        io::write_all(STDOUT_FILENO, b"\n");
+        let _ = rt.stdout().write_all(name);
+        let _ = println!(rt; " {n}");
     }
 }
 
 // Shows the tallies in their order, each under the next of the names, which end by a line feed each.
-fn show_all(names: &[u8], t: &Tallies) {
+fn show_all(rt: &HostRuntime, names: &[u8], t: &Tallies) {
     let mut at: usize = 0;
     let mut i: usize = 0;
     while at < names.len() {
         let end = line_end(names, at);
         if i < 38 {
-            show(&names[at..end - 1], t[i]);
+            show(rt, &names[at..end - 1], t[i]);
         }
         i += 1;
         at = end;
     }
 }
 
-pub(crate) fn show_tallies(t: &Tallies) {
+pub(crate) fn show_tallies(rt: &HostRuntime, t: &Tallies) {
     show_all(
+        rt,
         b"\nadmit_as\nsettle\nabort_as\nrelease_trait_probe\nrecord_manual\nreset\nstill_admits\ntry_admit\npermit\npeek\nacquire_cost\nreserve\navailable\ncharge\nrefund\nstarts\nturns\ndrops\ncalls between turns\nruns\n\nwaits told 1\n\nwaits told 3\nwaits told 4\n\nwaits told 6\n\nwaits told 8\nwaits told 9\nwaits told 10\nwaits told 11\nsteps\nbuilds\nstates\nrefusals\ndifferences\n",
         t,
     );

@@ -1,2 +1,0 @@
--- Laws, by what they speak of.
-pub mod Reading
