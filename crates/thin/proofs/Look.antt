@@ -4,7 +4,7 @@
 --
 -- The proof of f is as `Mut.antt` says, with
 --         look_spec Y (ref B ∷ slice u64 ∷ val X ∷ []) tt 𝓛 𝓜 𝓡 ..
--- for `mut-spec ..`, where `tt` says that there is no `mut_ref`.
+-- for `mut_spec ..`, where `tt` says that there is no `mut_ref`.
 use mathlib.Core.Path.{refl}
 use mathlib.Core.List.{List, []}
 use seplogic.Ra.Ura.{Ura}

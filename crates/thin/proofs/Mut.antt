@@ -1,4 +1,4 @@
--- Thin functions that change their records: `mut-spec`. Assumes nothing.
+-- Thin functions that change their records: `mut_spec`. Assumes nothing.
 --     pub fn f(b: &mut B, list: &mut [u64], x: X) -> Y { let s = step(*b, list, x); *b = s.b; s.answer }
 -- The parameters are any of `Types.antt`'s `Param`, in any order, and the step takes them in the same order. It returns a struct of the answer and then the record of each `&mut R`, in the parameters' order, which is the order of the stores.
 --
@@ -8,7 +8,7 @@
 --     pub f-spec : {M : Type 1} → stated.statement M
 --     unfolding code.routine
 --     f-spec 𝓛 𝓜 𝓡 =
---         mut-spec Y (mut_ref B ∷ mut_slice u64 ∷ val X ∷ []) SETTLED 𝓛 𝓜 𝓡 (f.clauses 𝓛 𝓜.mem 𝓡.run) (g.clauses 𝓛 𝓜.mem 𝓡.run)
+--         mut_spec Y (mut_ref B ∷ mut_slice u64 ∷ val X ∷ []) SETTLED 𝓛 𝓜 𝓡 (f.clauses 𝓛 𝓜.mem 𝓡.run) (g.clauses 𝓛 𝓜.mem 𝓡.run)
 --         record { gh = λ κs a x. x; req = λ κs a x. id⊢ 𝓤 _; ens = λ κs a x z ws. id⊢ 𝓤 _ }
 --         code.env key.name g-def.name (code.unfolded 𝓤 H 𝓜 𝓡) g-def.routine code.calls-CRATE::STEP (g-thm.met 𝓛 𝓜 𝓡)
 -- `id⊢ 𝓤 _` is for a clause that is the step's, with `r` for `r.answer`, `now b.entry` for `b`, and `now b.exit` for `r.b`. For one that follows from the step's (of a `requires`: from which the step's follows), `fact_mono 𝓤 _ _ (λ h. ..)`.
@@ -18,7 +18,7 @@ use Prim.Native.Nat.{ℕ, suc}
 use mathlib.Core.List.{List, [], ◌∷◌, ◌++◌}
 use lib.ListN.{get_or}
 use seplogic.Ra.Ura.{Ura}
-use seplogic.Ra.TreeShare.{full_share}
+use base.Fraction.{full_share}
 use mir.Syntax.{Ty, ty_struct, place, field, copy, rv_opd, seq, assign, return}
 use mir.Val.{Val, vstruct}
 use base.Fml.{fat}
@@ -56,5 +56,5 @@ module _ (Y : One) (Ps : List Param) (Z : Fields (Y ∷ records Ps)) where
       assigns ! (of_opd ! (load ! (from_at ! (at-s 𝓤 𝓛.H bs ms ts) (fld ! refl (stop !))) (look_in ! 1 (sub ! 0 refl (whole !))))) (from ! (stop !)) (init ! 5 refl (fine-one Y 𝓛 (Z.parts z).0 _ (Z.is z w is).1.0)) $
       move ! (1 ∷ 3 ∷ 4 ∷ []) $ fjoin ! $ fjoin ! $ move ! (1 ∷ 0 ∷ []) $ ends Y Ps storing 𝓛 c₂ c₁ L κs qs a g C Λ l bs ms ts z _ ws (vstruct (tuple_vals (Y ∷ records Ps) (Z.parts z)) ∷ []) (Z.is z w is).1.0)
 
-  pub mut-spec : {M : Type 1} (𝓤 : Ura M) → Thin Y Ps storing 𝓤
-  mut-spec 𝓤 = thin Y Ps storing 𝓤 (after_call {𝓤 = 𝓤})
+  pub mut_spec : {M : Type 1} (𝓤 : Ura M) → Thin Y Ps storing 𝓤
+  mut_spec 𝓤 = thin Y Ps storing 𝓤 (after_call {𝓤 = 𝓤})

@@ -4,8 +4,8 @@ use Prim.Native.Nat.{ℕ, zero, suc}
 use mathlib.Core.List.{List, [], ◌∷◌, ◌++◌}
 use lib.ListN.{get_or}
 use seplogic.Ra.Ura.{Ura}
-use seplogic.Ra.TreeShare.{full_share}
-use mir.Syntax.{Name, Ty, Place, Body as Code, seq, call, return, local, value_local, Fn}
+use base.Fraction.{full_share}
+use mir.Syntax.{Callee, Ty, Place, Body as Code, seq, call, return, local, value_local, Fn}
 use mir.Val.{Val}
 use base.Logic.{SProp, ent, sep, wand, ex, id⊢, via, comm∗, mono_l, wand_i, apply∗}
 use base.Fml.{fat, froom, fdies}
@@ -48,10 +48,12 @@ module _ (Y : One) (Ps : List Param) (N : Ending Y Ps) where
   abbrev temp : ℕ → ℕ
   temp i = suc (past (fn_tys 0 Ps) (past N.mids i))
 
-  abbrev pub thin_fn : Name → Fn
+  abbrev pub thin_fn : Callee → Fn
   thin_fn k = record {
     lifetimes = fn_lfts Ps;
     outlives = [];
+    ty_params = [];
+    givens = zero;
     params = past (fn_tys 0 Ps) 0;
     locals = local Y.τ value_local ∷ (locs (fn_tys 0 Ps) ++ (locs N.mids ++ (locs (temps Ps) ++ [])));
     body = lends suc temp Ps (seq (call k (operands suc temp Ps) N.p) N.rest);
@@ -115,7 +117,7 @@ module _ (Y : One) (Ps : List Param) (N : Ending Y Ps) where
           move ! (1 ∷ 0 ∷ []) $ join ! $ frame ! $ done !
 
       -- the step's triple, at the values in a row
-      met : (C : Calls 𝓤 H) (k : Name) → Triple 𝓤 (C k) Stepped → ent 𝓤 (Stepped.pre to_step) (C k (step_vals Ps d) (Stepped.post to_step))
+      met : (C : Calls 𝓤 H) (k : Callee) → Triple 𝓤 (C k) Stepped → ent 𝓤 (Stepped.pre to_step) (C k (step_vals Ps d) (Stepped.post to_step))
       met C k known = subst (λ (vs : List Val). ent 𝓤 (Stepped.pre to_step) (C k vs (Stepped.post to_step))) (step-flat (step_lfts Ps) (step_lft Ps κs) 0 Ps (λ ls. ls) d) (known to_step)
 
       -- what stands beside the locals once the step has returned z, with the last values ws
@@ -124,7 +126,7 @@ module _ (Y : One) (Ps : List Param) (N : Ending Y Ps) where
 
       exits : (z : N.S.Denot) (v : Val) (ws : Lasts step_ended (step_lft Ps κs) (step_args κs a)) → Is Y.R (N.ans z) (v ∷ []) → ent 𝓤 (⋆ 𝓛 (‵ (stored Ps κs qs d (N.new z)) ∷ after z ws)) (Ends v)
       exits z v ws is =
-          qed 𝓛 (‵ (stored Ps κs qs d (N.new z)) ∷ after z ws) ∵ move ! (1 ∷ 2 ∷ 0 ∷ []) $ left-run (fn_lfts Ps) κs (step_lfts Ps) (step_lft Ps κs) ! 0 0 Ps (λ ls. ls) (λ ls. ls) κs qs a (N.new z) ws _ (
+          qed 𝓛 (‵ (stored Ps κs qs d (N.new z)) ∷ after z ws) ∵ move ! (1 ∷ 2 ∷ 0 ∷ []) $ left-run (fn_lfts Ps) κs (step_lfts Ps) (step_lft Ps κs) ! 0 0 Ps (λ ls. ls) (λ ls. ls) refl qs a (N.new z) ws _ (
           recast 𝓛 (raw (toks 𝓛 (fn_lfts Ps) κs qs)) (tokens-are 𝓛 (fn_lfts Ps) κs qs) $
           suffices ! _ (𝓛.laws.⇛_intro _) $ show ! (λ (r : Y.R.Denot). sep 𝓤 (sep 𝓤 (toks 𝓛 (fn_lfts Ps) κs qs) (sem 𝓛 (Y.R.own_val r (v ∷ [])))) (ensured 𝓛 fn_ended c₂ κs a g r)) (N.ans z) $
           owned ! Y.R (Is Y.R) (Y.makes M 𝓤 𝓛) (N.ans z) _ is $ move ! (1 ∷ 0 ∷ []) $ join ! $ frame ! $
@@ -147,7 +149,7 @@ module _ (Y : One) (Ps : List Param) (N : Ending Y Ps) where
       at-temp : (bs : Blocks (fn_tys 0 Ps)) (ms : Blocks N.mids) (ts : Blocks (temps Ps)) (i : ℕ) → get_or (env (fn_tys 0 Ps) bs ++ (env N.mids ms ++ (env (temps Ps) ts ++ []))) (past (fn_tys 0 Ps) (past N.mids i)) (no_local 𝓤 H) ≡ get_or (env (temps Ps) ts ++ []) i (no_local 𝓤 H)
       at-temp bs ms ts i = past-env (fn_tys 0 Ps) bs _ (past N.mids i) _ ∙ past-env N.mids ms _ i _
 
-      walks : (C : Calls 𝓤 H) (Λ : Loops 𝓤 H) → FmC 𝓤 H 𝓛.laws C → (k : Name) → Triple 𝓤 (C k) Stepped
+      walks : (C : Calls 𝓤 H) (Λ : Loops 𝓤 H) → FmC 𝓤 H 𝓛.laws C → (k : Callee) → Triple 𝓤 (C k) Stepped
           → ((l : ℕ) (bs : Blocks (fn_tys 0 Ps)) (ms : Blocks N.mids) (ts : Blocks (temps Ps)) (w : Val) (z : N.S.Denot) (ws : Lasts step_ended (step_lft Ps κs) (step_args κs a)) → Is N.S z (w ∷ []) → Rest C Λ l bs ms ts w z ws)
           → Typed (fn_tys 0 Ps) (fn_vals Ps d) → ent 𝓤 (⋆ 𝓛 (‵ (tokens (fn_lfts Ps) κs qs) ∷ ‵ (fn_own Ps κs d) ∷ raw Req ∷ [])) (WpFn 𝓤 H C Λ (thin_fn k) (fn_vals Ps d) Ends)
       walks C Λ fm k known go typed =
@@ -176,7 +178,7 @@ module _ (Y : One) (Ps : List Param) (N : Ending Y Ps) where
         → Is N.S z (w ∷ []) → Rest κs qs a g C Λ l bs ms ts w z ws
 
     -- the function meets its contract where its step does
-    meets : (𝓣 : Tables 𝓤 H) (k : Name) → Triple 𝓤 (𝓣.C k) Stepped → Rests 𝓣.C 𝓣.Λ → Meets 𝓛 fn_ended.signature (WpFn 𝓤 H 𝓣.C 𝓣.Λ (thin_fn k)) (closing 𝓛 fn_ended c₂)
+    meets : (𝓣 : Tables 𝓤 H) (k : Callee) → Triple 𝓤 (𝓣.C k) Stepped → Rests 𝓣.C 𝓣.Λ → Meets 𝓛 fn_ended.signature (WpFn 𝓤 H 𝓣.C 𝓣.Λ (thin_fn k)) (closing 𝓛 fn_ended c₂)
     meets 𝓣 k known go y =
         let κs : Lfts (fn_lfts Ps) = y.0.0 in
         let qs : Shares (fn_lfts Ps) = y.0.1 in
@@ -196,7 +198,7 @@ module _ (Y : One) (Ps : List Param) (N : Ending Y Ps) where
   -- the same of the two routines: what a thin function's proof cites
   abbrev pub Thin : {M : Type 1} → Ura M → Type 2
   Thin 𝓤 = (𝓛 : Logic 𝓤) (𝓜 : Model 𝓤 𝓛.H) (𝓡 : Running 𝓤 𝓛.H 𝓜) (c₂ : Clauses 𝓤 fn_ended) (c₁ : Clauses 𝓤 step_ended) → Linked 𝓤 c₂ c₁
-      → (routines : Routines) (f : Name) (k : Name) → Closed 𝓤 𝓛.H (tables 𝓤 𝓛.H 𝓜 𝓡 routines).C (tables 𝓤 𝓛.H 𝓜 𝓡 routines).Λ f (thin_fn k)
+      → (routines : Routines) (f : Callee) (k : Callee) → Closed 𝓤 𝓛.H (tables 𝓤 𝓛.H 𝓜 𝓡 routines).C (tables 𝓤 𝓛.H 𝓜 𝓡 routines).Λ f (thin_fn k)
       → (step : Routine) → routines k ≡ step → Meets 𝓛 step_ended.signature (𝓡.run step) (closing 𝓛 step_ended c₁)
       → Meets 𝓛 fn_ended.signature (𝓡.run (routines f)) (closing 𝓛 fn_ended c₂)
 
