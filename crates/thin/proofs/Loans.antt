@@ -33,6 +33,7 @@ use denote.Triple.End.{all, Fins, lasts_of}
 use denote.Exit.{Exit, unchanged, leaves, Last, left, yes}
 use Rattle.thin.proofs.Types.{One, IsOne, fine-one, Tuple, tuple_tys, tuple_vals, IsTuple, Param, val, slice_of, ref_to}
 use Rattle.thin.proofs.Locals.{cell, Blocks, env, rooms, cells, Has, has_first, has-second, reads, from_at}
+pub use Rattle.thin.proofs.Params.{tys, vals}
 use Rattle.thin.proofs.Params.{Of, ref_val, slice_of_val, Slice, Ref, fn_lfts, step_lfts, tokens, fn_slots, step_slots, Inputs, fn_vals, fn_own, fn_types, step_types, operands, Spots}
 
 -- ---- a struct that a function makes of its answer and the records: make has its fields, in their order
@@ -64,14 +65,6 @@ slots [] = []
 slots (val X ∷ Ps) = slots Ps
 slots (slice_of m T ∷ Ps) = slots Ps
 slots (ref_to m R ∷ Ps) = R ∷ slots Ps
-
-abbrev pub tys : List One → List Ty
-tys [] = []
-tys (X ∷ Xs) = X.τ ∷ tys Xs
-
-abbrev pub vals : (Xs : List One) → Tuple Xs → List Val
-vals [] t = []
-vals (X ∷ Xs) t = X.val t.0 ∷ vals Xs t.1
 
 pub vals-tuple : (Xs : List One) (t : Tuple Xs) → of_list (vals Xs t) ≡ tuple_vals Xs t
 vals-tuple [] t = refl

@@ -264,6 +264,15 @@ module _ (n : ℕ) (κs : Lfts n) where
   step-owns j (slice_of mut T ∷ Ps) at d = rw (step-owns (suc j) Ps (λ ls. (at ls).1) d.1)
   step-owns j (ref_to m R ∷ Ps) at d = rw (step-owns j Ps at d.1)
 
+-- ---- data of these types, each in a local of its own
+abbrev pub tys : List One → List Ty
+tys [] = []
+tys (X ∷ Xs) = X.τ ∷ tys Xs
+
+abbrev pub vals : (Xs : List One) → Tuple Xs → List Val
+vals [] t = []
+vals (X ∷ Xs) t = X.val t.0 ∷ vals Xs t.1
+
 -- ---- the code. f has the locals of the parameters, and g those that are made for the call: a slice that is lent on has two, and a record's copy one
 abbrev pub fn_tys : ℕ → List Param → List Ty
 fn_tys j [] = []
@@ -303,13 +312,15 @@ operands f g (slice_of imm T ∷ Ps) = copy (place (f 0) []) ∷ operands (λ i.
 operands f g (slice_of mut T ∷ Ps) = copy (place (g 1) []) ∷ operands (λ i. f (suc i)) (λ i. g (suc (suc i))) Ps
 operands f g (ref_to m R ∷ Ps) = copy (place (g 0) []) ∷ operands (λ i. f (suc i)) (λ i. g (suc i)) Ps
 
--- after the call: each record that the step returns, the field k of the local z, is stored
-abbrev pub stores : (f : ℕ → ℕ) (z : ℕ) (k : ℕ → ℕ) → List Param → Code → Code
-stores f z k [] rest = rest
-stores f z k (val X ∷ Ps) rest = stores (λ i. f (suc i)) z k Ps rest
-stores f z k (slice_of m T ∷ Ps) rest = stores (λ i. f (suc i)) z k Ps rest
-stores f z k (ref_to imm R ∷ Ps) rest = stores (λ i. f (suc i)) z k Ps rest
-stores f z k (ref_to mut R ∷ Ps) rest = seq (assign (place (f 0) (deref R.τ ∷ [])) (rv_opd (copy (place z (field (k 0) ∷ []))))) (stores (λ i. f (suc i)) z (λ i. k (suc i)) Ps rest)
+-- after the call: each record that the step returns, the field k of the local z, is copied to the local e, and from there stored
+abbrev pub stores : (f : ℕ → ℕ) (z : ℕ) (k e : ℕ → ℕ) → List Param → Code → Code
+stores f z k e [] rest = rest
+stores f z k e (val X ∷ Ps) rest = stores (λ i. f (suc i)) z k e Ps rest
+stores f z k e (slice_of m T ∷ Ps) rest = stores (λ i. f (suc i)) z k e Ps rest
+stores f z k e (ref_to imm R ∷ Ps) rest = stores (λ i. f (suc i)) z k e Ps rest
+stores f z k e (ref_to mut R ∷ Ps) rest =
+    seq (assign (place (e 0) []) (rv_opd (copy (place z (field (k 0) ∷ [])))))
+    (seq (assign (place (f 0) (deref R.τ ∷ [])) (rv_opd (copy (place (e 0) [])))) (stores (λ i. f (suc i)) z (λ i. k (suc i)) (λ i. e (suc i)) Ps rest))
 
 -- ---- what is held while the step runs: the token of a `&R`, and the open borrow of a `&mut R`
 abbrev kept : (m : Mutability) (R : One) → Lft → Share → Of m R.R.Denot → Fml
@@ -424,34 +435,37 @@ module _ {M : Type 1} {𝓤 : Ura M} {𝓛 : Logic 𝓤} {K : Type 0} {E : Env �
       assigns t (of_opd t (load t (from_at t at_f (hop t (look t 9 refl) (stop t))) (look_raw t 0 refl))) (from_at t at_g (stop t)) (init t 6 refl (fine-one R 𝓛 x.now _ is)) $
       move t (2 ∷ 3 ∷ []) $ fjoin t $ move t (2 ∷ 0 ∷ []) $ fjoin t $ move t (1 ∷ 0 ∷ []) $ fjoin t $ lend-copied R x.now is s))
 
--- The same after the call: of the rest, what is held, Hs, becomes Ns. Zc is the cell of what the step returned
-module _ {M : Type 1} {𝓤 : Ura M} {𝓛 : Logic 𝓤} {K : Type 0} {E : Env 𝓤 𝓛.H} {C : Calls 𝓤 𝓛.H} {Λ : Loops 𝓤 𝓛.H} {q : Post 𝓤 𝓛.H} {code rest : Code} {Cs Zc Hs Ns : Fml} (t : K)
-    (go : (Γ : List (Item 𝓤)) → Seq K 𝓛 (‵ Cs ∷ ‵ Zc ∷ ‵ Ns ∷ Γ) (runs C Λ E rest q) → Seq K 𝓛 (‵ Cs ∷ ‵ Zc ∷ ‵ Hs ∷ Γ) (runs C Λ E code q)) where
-  store-none : {c : Fml} {Γ : List (Item 𝓤)} → Seq K 𝓛 (‵ (fsep c Cs) ∷ ‵ Zc ∷ ‵ Ns ∷ Γ) (runs C Λ E rest q) → Seq K 𝓛 (‵ (fsep c Cs) ∷ ‵ Zc ∷ ‵ Hs ∷ Γ) (runs C Λ E code q)
-  store-none s = fsplit t $ move t (1 ∷ 2 ∷ 3 ∷ []) $ go _ (move t (3 ∷ 0 ∷ []) $ fjoin t $ s)
+-- The same after the call: of the rest, what is held, Hs, becomes Ns, and room for the records, Xr, becomes Xc. Zc is the cell of what the step returned
+module _ {M : Type 1} {𝓤 : Ura M} {𝓛 : Logic 𝓤} {K : Type 0} {E : Env 𝓤 𝓛.H} {C : Calls 𝓤 𝓛.H} {Λ : Loops 𝓤 𝓛.H} {q : Post 𝓤 𝓛.H} {code rest : Code} {Cs Zc Hs Ns Xr Xc : Fml} (t : K)
+    (go : (Γ : List (Item 𝓤)) → Seq K 𝓛 (‵ Cs ∷ ‵ Zc ∷ ‵ Ns ∷ ‵ Xc ∷ Γ) (runs C Λ E rest q) → Seq K 𝓛 (‵ Cs ∷ ‵ Zc ∷ ‵ Hs ∷ ‵ Xr ∷ Γ) (runs C Λ E code q)) where
+  store-none : {c : Fml} {Γ : List (Item 𝓤)} → Seq K 𝓛 (‵ (fsep c Cs) ∷ ‵ Zc ∷ ‵ Ns ∷ ‵ Xc ∷ Γ) (runs C Λ E rest q) → Seq K 𝓛 (‵ (fsep c Cs) ∷ ‵ Zc ∷ ‵ Hs ∷ ‵ Xr ∷ Γ) (runs C Λ E code q)
+  store-none s = fsplit t $ move t (1 ∷ 2 ∷ 3 ∷ 4 ∷ []) $ go _ (move t (4 ∷ 0 ∷ []) $ fjoin t $ s)
 
   -- k is kept
-  store_kept : {c k : Fml} {Γ : List (Item 𝓤)} → Seq K 𝓛 (‵ (fsep c Cs) ∷ ‵ Zc ∷ ‵ (fsep k Ns) ∷ Γ) (runs C Λ E rest q) → Seq K 𝓛 (‵ (fsep c Cs) ∷ ‵ Zc ∷ ‵ (fsep k Hs) ∷ Γ) (runs C Λ E code q)
-  store_kept s = move t (2 ∷ []) $ fsplit t $ move t (2 ∷ 3 ∷ 1 ∷ []) $ store-none (move t (3 ∷ 2 ∷ []) $ fjoin t $ move t (1 ∷ 2 ∷ 0 ∷ []) $ s)
+  store_kept : {c k : Fml} {Γ : List (Item 𝓤)} → Seq K 𝓛 (‵ (fsep c Cs) ∷ ‵ Zc ∷ ‵ (fsep k Ns) ∷ ‵ Xc ∷ Γ) (runs C Λ E rest q) → Seq K 𝓛 (‵ (fsep c Cs) ∷ ‵ Zc ∷ ‵ (fsep k Hs) ∷ ‵ Xr ∷ Γ) (runs C Λ E code q)
+  store_kept s = move t (2 ∷ []) $ fsplit t $ move t (2 ∷ 3 ∷ 1 ∷ 4 ∷ []) $ store-none (move t (4 ∷ 2 ∷ []) $ fjoin t $ move t (1 ∷ 2 ∷ 0 ∷ []) $ s)
 
--- the field k of the local z, of the block c, is stored to the record behind the local f, of the block b, and its borrow is closed
-module _ {M : Type 1} {𝓤 : Ura M} {𝓛 : Logic 𝓤} {K : Type 0} {E : Env 𝓤 𝓛.H} {C : Calls 𝓤 𝓛.H} {Λ : Loops 𝓤 𝓛.H} {q : Post 𝓤 𝓛.H} {code rest : Code} {Cs Hs Ns : Fml} {ν : Sym} {τs : Tys} {c : ℕ} {vs : Vals} (t : K)
-    (go : (Γ : List (Item 𝓤)) → Seq K 𝓛 (‵ Cs ∷ ‵ (fat full_share (ty_struct ν τs) c zero (vstruct vs)) ∷ ‵ Ns ∷ Γ) (runs C Λ E rest q) → Seq K 𝓛 (‵ Cs ∷ ‵ (fat full_share (ty_struct ν τs) c zero (vstruct vs)) ∷ ‵ Hs ∷ Γ) (runs C Λ E code q))
+-- the field k of the local z, of the block c, is copied to the local e, of the block w, and stored to the record behind the local f, of the block b, and its borrow is closed
+module _ {M : Type 1} {𝓤 : Ura M} {𝓛 : Logic 𝓤} {K : Type 0} {E : Env 𝓤 𝓛.H} {C : Calls 𝓤 𝓛.H} {Λ : Loops 𝓤 𝓛.H} {q : Post 𝓤 𝓛.H} {code rest : Code} {Cs Hs Ns Xr Xc : Fml} {ν : Sym} {τs : Tys} {c : ℕ} {vs : Vals} (t : K)
+    (go : (Γ : List (Item 𝓤)) → Seq K 𝓛 (‵ Cs ∷ ‵ (fat full_share (ty_struct ν τs) c zero (vstruct vs)) ∷ ‵ Ns ∷ ‵ Xc ∷ Γ) (runs C Λ E rest q) → Seq K 𝓛 (‵ Cs ∷ ‵ (fat full_share (ty_struct ν τs) c zero (vstruct vs)) ∷ ‵ Hs ∷ ‵ Xr ∷ Γ) (runs C Λ E code q))
     (R : One) (x : MutBor R.R.Denot) (κ : Lft) (p : Share) (y : R.R.Denot) (is : IsOne R y) where
   open 𝓛 use {H}
 
-  store-mut-ref : {ℓ : Lifetime} {τ : Ty} {f b z k o : ℕ} {Γ : List (Item 𝓤)} → get_or E f (no_local 𝓤 H) ≡ (ty_ref ℓ mut τ, b) → get_or E z (no_local 𝓤 H) ≡ (ty_struct ν τs, c) → field_at zero τs k ≡ some (R.τ, o) → get_v vs k ≡ R.val y
-      → Seq K 𝓛 (‵ (fsep (cell (ty_ref ℓ mut τ) b (vptr x.ref_ptr.0 x.ref_ptr.1)) Cs) ∷ ‵ (fat full_share (ty_struct ν τs) c zero (vstruct vs)) ∷ ‵ (fsep (fsep (flft κ p) (fsep (fobs x.ghost_name (R.R.coded.code y)) (fbor κ (Body (mem R.R) x.ref_ptr.0 x.ref_ptr.1 x.ghost_name)))) Ns) ∷ Γ) (runs C Λ E rest q)
-      → Seq K 𝓛 (‵ (fsep (cell (ty_ref ℓ mut τ) b (vptr x.ref_ptr.0 x.ref_ptr.1)) Cs) ∷ ‵ (fat full_share (ty_struct ν τs) c zero (vstruct vs)) ∷ ‵ (fsep (kept mut R κ p x) Hs) ∷ Γ)
-      (runs C Λ E (seq (assign (place f (deref R.τ ∷ [])) (rv_opd (copy (place z (field k ∷ []))))) code) q)
-  store-mut-ref {k = k} at_f at-z at-k is_y s =
-      fsplit t $ fsplit t $ move t (4 ∷ []) $ fsplit t $ fsplit t $ move t (1 ∷ []) $ fsplit3 t $
-      -- [the open borrow; obs; auth; the record's cell; Hs; f; ..; Cs; z]
-      assigns t (of_opd t (load t (from_at t at-z (fld t at-k (stop t))) (read_as t is_y (look_in t 8 (sub t k at-k (whole t)))))) (from_at t at_f (hop t (look t 5 refl) (stop t))) (store_raw t 3 refl (fine-one R 𝓛 y _ is)) $
+  store-mut-ref : {ℓ : Lifetime} {τ : Ty} {f b z k e w o : ℕ} {Γ : List (Item 𝓤)} → get_or E f (no_local 𝓤 H) ≡ (ty_ref ℓ mut τ, b) → get_or E e (no_local 𝓤 H) ≡ (R.τ, w) → get_or E z (no_local 𝓤 H) ≡ (ty_struct ν τs, c) → field_at zero τs k ≡ some (R.τ, o) → get_v vs k ≡ R.val y
+      → Seq K 𝓛 (‵ (fsep (cell (ty_ref ℓ mut τ) b (vptr x.ref_ptr.0 x.ref_ptr.1)) Cs) ∷ ‵ (fat full_share (ty_struct ν τs) c zero (vstruct vs)) ∷ ‵ (fsep (fsep (flft κ p) (fsep (fobs x.ghost_name (R.R.coded.code y)) (fbor κ (Body (mem R.R) x.ref_ptr.0 x.ref_ptr.1 x.ghost_name)))) Ns) ∷ ‵ (fsep (cell R.τ w (R.val y)) Xc) ∷ Γ) (runs C Λ E rest q)
+      → Seq K 𝓛 (‵ (fsep (cell (ty_ref ℓ mut τ) b (vptr x.ref_ptr.0 x.ref_ptr.1)) Cs) ∷ ‵ (fat full_share (ty_struct ν τs) c zero (vstruct vs)) ∷ ‵ (fsep (kept mut R κ p x) Hs) ∷ ‵ (fsep (space R.τ w) Xr) ∷ Γ)
+      (runs C Λ E (seq (assign (place e []) (rv_opd (copy (place z (field k ∷ []))))) (seq (assign (place f (deref R.τ ∷ [])) (rv_opd (copy (place e [])))) code)) q)
+  store-mut-ref {k = k} at_f at_e at-z at-k is_y s =
+      move t (3 ∷ []) $ fsplit t $ fsplit t $
+      -- [room for the copy; ..; Xr; f with Cs; z; what is held]
+      assigns t (of_opd t (load t (from_at t at-z (fld t at-k (stop t))) (read_as t is_y (look_in t 4 (sub t k at-k (whole t)))))) (from_at t at_e (stop t)) (init t 0 refl (fine-one R 𝓛 y _ is)) $
+      move t (3 ∷ 4 ∷ 5 ∷ []) $ fsplit t $ fsplit t $ move t (4 ∷ []) $ fsplit t $ fsplit t $ move t (1 ∷ []) $ fsplit3 t $
+      -- [the open borrow; obs; auth; the record's cell; Hs; f; ..; Cs; z; the copy; ..; Xr]
+      assigns t (of_opd t (load t (from_at t at_e (stop t)) (look t 9 refl))) (from_at t at_f (hop t (look t 5 refl) (stop t))) (store_raw t 3 refl (fine-one R 𝓛 y _ is)) $
       owned t R.R (Is R.R) (R.makes M 𝓤 𝓛) y _ is $ move t (4 ∷ 0 ∷ []) $
       rewrite t 0 (λ (σs : List Ty). ‵ (cell_at full_share σs (R.val y ∷ []) x.ref_ptr.0 x.ref_ptr.1)) (sym R.one) refl $ closes t tt R.R y (R.val y ∷ []) x.ref_ptr.0 x.ref_ptr.1 $
-      -- [obs; the borrow; its token; Hs; f; ..; Cs; z]
-      fjoin t $ move t (1 ∷ 0 ∷ []) $ fjoin t $ move t (2 ∷ 3 ∷ 4 ∷ []) $ fjoin t $ fjoin t $ move t (1 ∷ 2 ∷ []) $ fjoin t $ move t (1 ∷ 2 ∷ 0 ∷ []) $ store_kept t go s
+      -- [obs; the borrow; its token; Hs; f; ..; Cs; z; the copy; ..; Xr]
+      fjoin t $ move t (1 ∷ 0 ∷ []) $ fjoin t $ move t (2 ∷ 3 ∷ 4 ∷ []) $ fjoin t $ fjoin t $ move t (1 ∷ 2 ∷ []) $ fjoin t $ move t (1 ∷ 2 ∷ 0 ∷ 5 ∷ []) $ store_kept t go (move t (4 ∷ 5 ∷ 3 ∷ []) $ fjoin t $ fjoin t $ move t (1 ∷ 2 ∷ 3 ∷ 0 ∷ []) $ s)
 
 module _ {M : Type 1} {𝓤 : Ura M} {𝓛 : Logic 𝓤} {K : Type 0} {E : Env 𝓤 𝓛.H} where
   open 𝓛 use {H}
@@ -482,18 +496,18 @@ module _ {M : Type 1} {𝓤 : Ura M} {𝓛 : Logic 𝓤} {K : Type 0} {E : Env �
       lend-mut-slice t (lends-run t (suc j) Ps bs.1 ts.1.1 κs.1 qs.1 d.1 (λ i. f (suc i)) (λ i. g (suc (suc i))) E₁ E₂ (λ i. at_f (suc i)) (λ i. at_g (suc (suc i)))) T d.0 κs.0 (at_f 0) (at_g 0) (at_g 1) s
   lends-run t j (ref_to m R ∷ Ps) bs ts κs qs d f g E₁ E₂ at_f at_g Γ s = lend-ref t (lends-run t (suc j) Ps bs.1 ts.1 κs.1 qs.1 d.1 (λ i. f (suc i)) (λ i. g (suc i)) E₁ E₂ (λ i. at_f (suc i)) (λ i. at_g (suc i))) m R d.0 κs.0 qs.0 (at_f 0) (at_g 0) s
 
-  -- the statements after the call, from [the parameters' cells; what the step returned; what is held]. The records are the fields k, k + 1, .. of the local z
+  -- the statements after the call, from [the parameters' cells; what the step returned; what is held; room for the copies]. The records are the fields k, k + 1, .. of the local z
   pub stores_run : K → (j : ℕ) (Ps : List Param) (bs : Blocks (fn_tys j Ps)) (κs : Lfts (fn_lfts Ps)) (qs : Shares (fn_lfts Ps)) (d : Inputs Ps) (new : Tuple (records Ps)) → IsTuple (records Ps) new → (f : ℕ → ℕ) (E₁ : List (Ty × ℕ)) → Spots 𝓤 H E f (env (fn_tys j Ps) bs ++ E₁)
-      → (z c : ℕ) (ν : Sym) (τs : Tys) (vs : Vals) (k : ℕ → ℕ) (o : ℕ) → get_or E z (no_local 𝓤 H) ≡ (ty_struct ν τs, c) → ((i : ℕ) → field_at zero τs (k i) ≡ field_at o (tuple_tys (records Ps)) i) → ((i : ℕ) → get_v vs (k i) ≡ get_v (tuple_vals (records Ps) new) i)
+      → (z c : ℕ) (ν : Sym) (τs : Tys) (vs : Vals) (k : ℕ → ℕ) (o : ℕ) (es : Blocks (tys (records Ps))) (e : ℕ → ℕ) (E₂ : List (Ty × ℕ)) → Spots 𝓤 H E e (env (tys (records Ps)) es ++ E₂) → get_or E z (no_local 𝓤 H) ≡ (ty_struct ν τs, c) → ((i : ℕ) → field_at zero τs (k i) ≡ field_at o (tuple_tys (records Ps)) i) → ((i : ℕ) → get_v vs (k i) ≡ get_v (tuple_vals (records Ps) new) i)
       → {C : Calls 𝓤 H} {Λ : Loops 𝓤 H} {q : Post 𝓤 H} {rest : Code} (Γ : List (Item 𝓤))
-      → Seq K 𝓛 (‵ (cells (fn_tys j Ps) bs (fn_vals Ps d)) ∷ ‵ (fat full_share (ty_struct ν τs) c zero (vstruct vs)) ∷ ‵ (stored Ps κs qs d new) ∷ Γ) (runs C Λ E rest q)
-      → Seq K 𝓛 (‵ (cells (fn_tys j Ps) bs (fn_vals Ps d)) ∷ ‵ (fat full_share (ty_struct ν τs) c zero (vstruct vs)) ∷ ‵ (held Ps κs qs d) ∷ Γ) (runs C Λ E (stores f z k Ps rest) q)
-  stores_run t j [] bs κs qs d new are f E₁ at_f z c ν τs vs k o at-z at-k is-k Γ s = s
-  stores_run t j (val X ∷ Ps) bs κs qs d new are f E₁ at_f z c ν τs vs k o at-z at-k is-k Γ s = store-none t (stores_run t j Ps bs.1 κs qs d.1 new are (λ i. f (suc i)) E₁ (λ i. at_f (suc i)) z c ν τs vs k o at-z at-k is-k) s
-  stores_run t j (slice_of m T ∷ Ps) bs κs qs d new are f E₁ at_f z c ν τs vs k o at-z at-k is-k Γ s = store-none t (stores_run t (suc j) Ps bs.1 κs.1 qs.1 d.1 new are (λ i. f (suc i)) E₁ (λ i. at_f (suc i)) z c ν τs vs k o at-z at-k is-k) s
-  stores_run t j (ref_to imm R ∷ Ps) bs κs qs d new are f E₁ at_f z c ν τs vs k o at-z at-k is-k Γ s = store_kept t (stores_run t (suc j) Ps bs.1 κs.1 qs.1 d.1 new are (λ i. f (suc i)) E₁ (λ i. at_f (suc i)) z c ν τs vs k o at-z at-k is-k) s
-  stores_run t j (ref_to mut R ∷ Ps) bs κs qs d new are f E₁ at_f z c ν τs vs k o at-z at-k is-k Γ s =
-      store-mut-ref t (stores_run t (suc j) Ps bs.1 κs.1 qs.1 d.1 new.1 are.1 (λ i. f (suc i)) E₁ (λ i. at_f (suc i)) z c ν τs vs (λ i. k (suc i)) _ at-z (λ i. at-k (suc i)) (λ i. is-k (suc i))) R d.0 κs.0 qs.0 new.0 are.0 (at_f 0) at-z (at-k 0) (is-k 0) s
+      → Seq K 𝓛 (‵ (cells (fn_tys j Ps) bs (fn_vals Ps d)) ∷ ‵ (fat full_share (ty_struct ν τs) c zero (vstruct vs)) ∷ ‵ (stored Ps κs qs d new) ∷ ‵ (cells (tys (records Ps)) es (vals (records Ps) new)) ∷ Γ) (runs C Λ E rest q)
+      → Seq K 𝓛 (‵ (cells (fn_tys j Ps) bs (fn_vals Ps d)) ∷ ‵ (fat full_share (ty_struct ν τs) c zero (vstruct vs)) ∷ ‵ (held Ps κs qs d) ∷ ‵ (rooms (tys (records Ps)) es) ∷ Γ) (runs C Λ E (stores f z k e Ps rest) q)
+  stores_run t j [] bs κs qs d new are f E₁ at_f z c ν τs vs k o es e E₂ at_e at-z at-k is-k Γ s = s
+  stores_run t j (val X ∷ Ps) bs κs qs d new are f E₁ at_f z c ν τs vs k o es e E₂ at_e at-z at-k is-k Γ s = store-none t (stores_run t j Ps bs.1 κs qs d.1 new are (λ i. f (suc i)) E₁ (λ i. at_f (suc i)) z c ν τs vs k o es e E₂ at_e at-z at-k is-k) s
+  stores_run t j (slice_of m T ∷ Ps) bs κs qs d new are f E₁ at_f z c ν τs vs k o es e E₂ at_e at-z at-k is-k Γ s = store-none t (stores_run t (suc j) Ps bs.1 κs.1 qs.1 d.1 new are (λ i. f (suc i)) E₁ (λ i. at_f (suc i)) z c ν τs vs k o es e E₂ at_e at-z at-k is-k) s
+  stores_run t j (ref_to imm R ∷ Ps) bs κs qs d new are f E₁ at_f z c ν τs vs k o es e E₂ at_e at-z at-k is-k Γ s = store_kept t (stores_run t (suc j) Ps bs.1 κs.1 qs.1 d.1 new are (λ i. f (suc i)) E₁ (λ i. at_f (suc i)) z c ν τs vs k o es e E₂ at_e at-z at-k is-k) s
+  stores_run t j (ref_to mut R ∷ Ps) bs κs qs d new are f E₁ at_f z c ν τs vs k o es e E₂ at_e at-z at-k is-k Γ s =
+      store-mut-ref t (stores_run t (suc j) Ps bs.1 κs.1 qs.1 d.1 new.1 are.1 (λ i. f (suc i)) E₁ (λ i. at_f (suc i)) z c ν τs vs (λ i. k (suc i)) _ es.1 (λ i. e (suc i)) E₂ (λ i. at_e (suc i)) at-z (λ i. at-k (suc i)) (λ i. is-k (suc i))) R d.0 κs.0 qs.0 new.0 are.0 (at_f 0) (at_e 0) at-z (at-k 0) (is-k 0) s
 
 -- ---- at entry: the machine values are of the locals' types
 pub fn-typed : {M : Type 1} {𝓤 : Ura M} (𝓛 : Logic 𝓤) (n : ℕ) (κs : Lfts n) (j : ℕ) (Ps : List Param) (at : Lfts n → Lfts (fn_lfts Ps)) (a : Denots (fn_types n κs j Ps at))
