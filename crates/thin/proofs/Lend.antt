@@ -11,8 +11,8 @@ use Prim.Native.Nat.{ℕ, suc}
 use mathlib.Core.List.{List, [], ◌∷◌, ◌++◌}
 use lib.ListN.{get_or}
 use seplogic.Ra.Ura.{Ura}
-use seplogic.Ra.TreeShare.{full_share}
-use mir.Syntax.{Name, Ty, ty_struct, place, copy, aggregate, seq, assign, call, return, local, value_local, memory_slot, Fn}
+use base.Fraction.{full_share}
+use mir.Syntax.{Callee, Ty, ty_struct, place, copy, aggregate, seq, assign, call, return, local, value_local, memory_slot, Fn}
 use mir.Val.{Val, vstruct, Vals}
 use base.Logic.{SProp, ent, sep, wand, ex, emp, id⊢, via, comm∗, mono_l, wand_i, apply∗}
 use base.Fml.{fat}
@@ -29,7 +29,7 @@ use contract.Running.{Running, tables, tables_of}
 use denote.RattleType.{flat, owns}
 use denote.Laws.{Is, Typed, valss, shows}
 use denote.Signature.{plain}
-use denote.Steps.{only, owned, facts, said, nothing}
+use denote.Steps.{only, owned, facts, said}
 use denote.Triple.Entry.{Args, Vals as EntryVals, on_entry}
 use denote.Triple.End.{all}
 use denote.Triple.Spec.{Meets, triple_of}
@@ -60,10 +60,12 @@ module _ (Y : One) (Ps : List Param) (Z : Built (Y ∷ slots Ps)) (st : Stills P
   abbrev c : ℕ → ℕ
   c i = suc (past (in_tys 0 Ps) (past (tys (slots Ps)) (suc (past (temps Ps) i))))
 
-  abbrev pub lend_fn : Name → Fn
+  abbrev pub lend_fn : Callee → Fn
   lend_fn k = record {
     lifetimes = step_lfts Ps;
     outlives = [];
+    ty_params = [];
+    givens = 0;
     params = past (in_tys 0 Ps) 0;
     locals = local τz value_local ∷ (locs_at value_local (in_tys 0 Ps) ++ (locs_at memory_slot (tys (slots Ps)) ++ (local Y.τ value_local ∷ (locs_at value_local (temps Ps) ++ (locs_at value_local (tys (slots Ps)) ++ [])))));
     body = keeps suc h Ps (lends suc h g Ps (seq (call k (operands suc g Ps) (place y [])) (copies h c (slots Ps) (seq (assign (place 0 []) (aggregate (copy (place y []) ∷ copied c (slots Ps)))) return))));
@@ -122,12 +124,12 @@ module _ (Y : One) (Ps : List Param) (Z : Built (Y ∷ slots Ps)) (st : Stills P
             move ! (1 ∷ 0 ∷ []) $ join ! $ frame ! $ use0 𝓛 (raw ((c₁ κs₁ step_args).requires (S.gh κs₁ step_args))) (S.asks κs₁ step_args) $ done !
 
         -- the step's triple, at the values in a row
-        met : (C : Calls 𝓤 H) (k : Name) → Triple 𝓤 (C k) Stepped → ent 𝓤 (Stepped.pre to_step) (C k (fn_vals Ps (lent_in Ps d hs ln)) (Stepped.post to_step))
+        met : (C : Calls 𝓤 H) (k : Callee) → Triple 𝓤 (C k) Stepped → ent 𝓤 (Stepped.pre to_step) (C k (fn_vals Ps (lent_in Ps d hs ln)) (Stepped.post to_step))
         met C k known = subst (λ (vs : List Val). ent 𝓤 (Stepped.pre to_step) (C k vs (Stepped.post to_step))) (out-flat (fn_lfts Ps) κs₁ 0 Ps (λ ls. ls) (lent_in Ps d hs ln)) (known to_step)
 
         exits : (t : Tuple (Y ∷ slots Ps)) (ws : Lasts step_ended κs₁ step_args) → IsTuple (Y ∷ slots Ps) t → ent 𝓤 (⋆ 𝓛 (‵ (tokens (step_lfts Ps) κs qs) ∷ ‵ (lasts step_ended κs₁ step_args ws) ∷ [])) (Ends (vstruct (tuple_vals (Y ∷ slots Ps) t)))
         exits t ws are =
-            qed 𝓛 (‵ (tokens (step_lfts Ps) κs qs) ∷ ‵ (lasts step_ended κs₁ step_args ws) ∷ []) ∵ move ! (1 ∷ []) $ left-run (step_lfts Ps) κs (fn_lfts Ps) κs₁ ! 0 0 Ps (λ ls. ls) (λ ls. ls) st hs ln a ws _ (move ! (1 ∷ []) $
+            qed 𝓛 (‵ (tokens (step_lfts Ps) κs qs) ∷ ‵ (lasts step_ended κs₁ step_args ws) ∷ []) ∵ move ! (1 ∷ []) $ left-run (step_lfts Ps) κs (fn_lfts Ps) κs₁ ! 0 0 Ps (λ ls. ls) (λ ls. ls) st hs ln refl a ws _ (move ! (1 ∷ []) $
             recast 𝓛 (raw (toks 𝓛 (step_lfts Ps) κs qs)) (tokens-are 𝓛 (step_lfts Ps) κs qs) $
             suffices ! _ (𝓛.laws.⇛_intro _) $ show ! (λ (r : Z.R.Denot). sep 𝓤 (sep 𝓤 (toks 𝓛 (step_lfts Ps) κs qs) (sem 𝓛 (Z.R.own_val r (vstruct (tuple_vals (Y ∷ slots Ps) t) ∷ [])))) (ensured 𝓛 lender_ended c₂ κs a x r)) (Z.make t) $
             owned ! Z.R (Is Z.R) (Z.makes M 𝓤 𝓛) (Z.make t) _ (Z.is t are) $ move ! (1 ∷ 0 ∷ []) $ join ! $ frame ! $
@@ -150,7 +152,7 @@ module _ (Y : One) (Ps : List Param) (Z : Built (Y ∷ slots Ps)) (st : Stills P
         at_c : Spots 𝓤 H E c (env (tys (slots Ps)) cs ++ [])
         at_c i = past-env (in_tys 0 Ps) bs _ (past (tys (slots Ps)) (suc (past (temps Ps) i))) _ ∙ (past-env (tys (slots Ps)) hs _ (suc (past (temps Ps) i)) _ ∙ past-env (temps Ps) ts _ i _)
 
-      walks : (C : Calls 𝓤 H) (Λ : Loops 𝓤 H) → FmC 𝓤 H 𝓛.laws C → (k : Name) → Triple 𝓤 (C k) Stepped → Typed (in_tys 0 Ps) (in_vals Ps d)
+      walks : (C : Calls 𝓤 H) (Λ : Loops 𝓤 H) → FmC 𝓤 H 𝓛.laws C → (k : Callee) → Triple 𝓤 (C k) Stepped → Typed (in_tys 0 Ps) (in_vals Ps d)
           → ent 𝓤 (⋆ 𝓛 (‵ (tokens (step_lfts Ps) κs qs) ∷ ‵ (in_own Ps κs d) ∷ [])) (WpFn 𝓤 H C Λ (lend_fn k) (in_vals Ps d) Ends)
       walks C Λ fm k known typed =
           qed 𝓛 (‵ (tokens (step_lfts Ps) κs qs) ∷ ‵ (in_own Ps κs d) ∷ []) ∵ enter ! C Λ (lend_fn k) (in_vals Ps d) _ $
@@ -185,7 +187,7 @@ module _ (Y : One) (Ps : List Param) (Z : Built (Y ∷ slots Ps)) (st : Stills P
           move ! (2 ∷ []) $ drop ! $ recast 𝓛 (‵ (tokens (step_lfts Ps) κs qs)) (sym (tokens-are 𝓛 (step_lfts Ps) κs qs)) $ frame ! $ recast 𝓛 (‵ (in_own Ps κs d)) (ap (sem 𝓛) (in-owns (step_lfts Ps) κs 0 Ps (λ ls. ls) a)) $ done !
 
     -- the lender meets its contract where the step does
-    meets : (𝓣 : Tables 𝓤 H) (k : Name) → Triple 𝓤 (𝓣.C k) Stepped → Meets 𝓛 lender_ended.signature (WpFn 𝓤 H 𝓣.C 𝓣.Λ (lend_fn k)) (closing 𝓛 lender_ended c₂)
+    meets : (𝓣 : Tables 𝓤 H) (k : Callee) → Triple 𝓤 (𝓣.C k) Stepped → Meets 𝓛 lender_ended.signature (WpFn 𝓤 H 𝓣.C 𝓣.Λ (lend_fn k)) (closing 𝓛 lender_ended c₂)
     meets 𝓣 k known v =
         let κs : Lfts (step_lfts Ps) = v.0.0 in
         let qs : Shares (step_lfts Ps) = v.0.1 in
@@ -204,7 +206,7 @@ module _ (Y : One) (Ps : List Param) (Z : Built (Y ∷ slots Ps)) (st : Stills P
 
   -- the same of the two routines: what a lender's proof cites
   pub lend_spec : {M : Type 1} {𝓤 : Ura M} (𝓛 : Logic 𝓤) (𝓜 : Model 𝓤 𝓛.H) (𝓡 : Running 𝓤 𝓛.H 𝓜) (c₂ : Clauses 𝓤 lender_ended) (c₁ : Clauses 𝓤 step_ended) → Silent 𝓤 c₂ c₁
-      → (routines : Routines) (f : Name) (k : Name) → Closed 𝓤 𝓛.H (tables 𝓤 𝓛.H 𝓜 𝓡 routines).C (tables 𝓤 𝓛.H 𝓜 𝓡 routines).Λ f (lend_fn k)
+      → (routines : Routines) (f : Callee) (k : Callee) → Closed 𝓤 𝓛.H (tables 𝓤 𝓛.H 𝓜 𝓡 routines).C (tables 𝓤 𝓛.H 𝓜 𝓡 routines).Λ f (lend_fn k)
       → (step : Routine) → routines k ≡ step → Meets 𝓛 step_ended.signature (𝓡.run step) (closing 𝓛 step_ended c₁)
       → Meets 𝓛 lender_ended.signature (𝓡.run (routines f)) (closing 𝓛 lender_ended c₂)
   unfolding tables_of

@@ -1,18 +1,18 @@
 -- Lemmas on the parameters of a function that lends its records: its arguments and its step's, and what its code does before and after the call. Assumes nothing.
 -- Each is by recursion on the list of parameters. The function's signature is that of a step by value, and its step's that of a thin function.
-use mathlib.Core.Path.{◌≡◌, refl, sym, subst}
+use mathlib.Core.Path.{◌≡◌, refl, sym, ap, subst}
 use Prim.Native.Nat.{ℕ, zero, suc}
 use mathlib.Core.List.{List, [], ◌∷◌, ◌++◌}
 use lib.ListN.{length}
 use seplogic.Ra.Ura.{Ura}
-use seplogic.Ra.TreeShare.{full_share}
-use mir.Syntax.{Sym, Home, Mutability, Ty, ty_ref, ty_struct, imm, mut, named, erased, place, deref, field, Opd as Operand, copy, rv_opd, addr_of, aggregate, Body as Code, seq, assign, call, local, Local}
+use base.Fraction.{full_share}
+use mir.Syntax.{Sym, Home, Mutability, Ty, ty_ref, ty_struct, imm, mut, named, erased, place, deref, field, Opd as Operand, copy, rv_opd, addr_of, aggregate, Body as Code, seq, assign, local, Local}
 use mir.Val.{Val, vptr, vstruct, of_list}
-use base.Fml.{GName, Fml, ftrue, fsep, fat, fdies, flft, flent}
+use base.Fml.{Lft, GName, Fml, ftrue, fsep, fat, fdies, flft, flent}
 use prog.Wp.{Env, Calls, Loops}
 use types.Logic.{Logic}
-use types.Kit.{Goal, Soaks, Item, ‵, some, later, ◌⊛◌, Post, runs, allocs, Seq, ◌$◌, by, move, drop, rewrite, use1, split, pick, await, fsplit, fjoin, fpick, fpack}
-use types.Run.{Opds, look, init, stop, hop, fld, from, load, addr, of_opd, and_then, no_more, assigns, alloc1}
+use types.Kit.{Goal, Soaks, Item, ‵, some, later, ◌⊛◌, Post, runs, allocs, Seq, ◌$◌, move, drop, rewrite, use1, split, pick, await, fsplit, fjoin, fpick, fpack}
+use types.Run.{Opds, look, init, stop, hop, fld, load, addr, of_opd, and_then, no_more, assigns, alloc1}
 use types.Part.{agg, whole, sub, look_in}
 use types.Tokens.{lft_new, lft_end, lent_back}
 use types.SemTy.{Body}
@@ -20,11 +20,11 @@ use contract.Lifetimes.{Lfts, Shares}
 use denote.RattleType.{RattleType, Denots, Valss, flat, owns}
 use denote.Memory.{mem, cell_at, pointee, part_at, part_of}
 use denote.Laws.{Is, Ises, Are, Typed, Makes, Lawful, Spells, valss, Tellss, shows}
-use denote.Ref.{Bor, MutRef, ShrRef, shr_vals}
-use denote.Slice.{slice_ty, slice_val, shr_slice_vals, mut_slice_Tells, shr_slice_Tells}
-use denote.Lend.{lends_ref, lends_shr}
+use denote.Ref.{MutRef, ShrRef}
+use denote.Slice.{slice_ty, slice_val, MutSlice, mut_slice_Tells, shr_slice_Tells}
+use denote.Lend.{lends_ref, lends_free}
 use denote.Signature.{plain}
-use denote.Steps.{owned, facts, nothing}
+use denote.Steps.{facts, nothing}
 use denote.Struct.Steps.{spelt}
 use denote.Struct.Struct.{Plains, AreAll}
 use denote.Struct.Declared as SD
@@ -33,7 +33,8 @@ use denote.Triple.End.{all, Fins, lasts_of}
 use denote.Exit.{Exit, unchanged, leaves, Last, left, yes}
 use Rattle.thin.proofs.Types.{One, IsOne, fine-one, Tuple, tuple_tys, tuple_vals, IsTuple, Param, val, slice_of, ref_to}
 use Rattle.thin.proofs.Locals.{cell, Blocks, env, rooms, cells, Has, has_first, has-second, reads, from_at}
-use Rattle.thin.proofs.Params.{Slice, Ref, fn_lfts, step_lfts, tokens, fn_slots, step_slots, Inputs, fn_vals, fn_own, fn_types, step_types, operands, Spots}
+pub use Rattle.thin.proofs.Params.{tys, vals}
+use Rattle.thin.proofs.Params.{Of, ref_val, slice_of_val, Slice, Ref, fn_lfts, step_lfts, tokens, fn_slots, step_slots, Inputs, fn_vals, fn_own, fn_types, step_types, operands, Spots}
 
 -- ---- a struct that a function makes of its answer and the records: make has its fields, in their order
 pub record Built (Xs : List One) : Type 2 where
@@ -65,14 +66,6 @@ slots (val X ∷ Ps) = slots Ps
 slots (slice_of m T ∷ Ps) = slots Ps
 slots (ref_to m R ∷ Ps) = R ∷ slots Ps
 
-abbrev pub tys : List One → List Ty
-tys [] = []
-tys (X ∷ Xs) = X.τ ∷ tys Xs
-
-abbrev pub vals : (Xs : List One) → Tuple Xs → List Val
-vals [] t = []
-vals (X ∷ Xs) t = X.val t.0 ∷ vals Xs t.1
-
 pub vals-tuple : (Xs : List One) (t : Tuple Xs) → of_list (vals Xs t) ≡ tuple_vals Xs t
 vals-tuple [] t = refl
 vals-tuple (X ∷ Xs) t = rw (vals-tuple Xs t.1)
@@ -81,7 +74,7 @@ vals-tuple (X ∷ Xs) t = rw (vals-tuple Xs t.1)
 abbrev pub Ins : List Param → Type 0
 Ins [] = Unit {0}
 Ins (val X ∷ Ps) = X.R.Denot × Ins Ps
-Ins (slice_of m T ∷ Ps) = Bor (List T.R.Denot) × Ins Ps
+Ins (slice_of m T ∷ Ps) = Of m (List T.R.Denot) × Ins Ps
 Ins (ref_to m R ∷ Ps) = R.R.Denot × Ins Ps
 
 abbrev pub in_tys : ℕ → List Param → List Ty
@@ -93,13 +86,13 @@ in_tys j (ref_to m R ∷ Ps) = R.τ ∷ in_tys j Ps
 abbrev pub in_vals : (Ps : List Param) → Ins Ps → List Val
 in_vals [] d = []
 in_vals (val X ∷ Ps) d = X.val d.0 ∷ in_vals Ps d.1
-in_vals (slice_of m T ∷ Ps) d = slice_val d.0.ref_ptr (length d.0.now) ∷ in_vals Ps d.1
+in_vals (slice_of m T ∷ Ps) d = slice_of_val m T d.0 ∷ in_vals Ps d.1
 in_vals (ref_to m R ∷ Ps) d = R.val d.0 ∷ in_vals Ps d.1
 
 abbrev pub in_own : (Ps : List Param) → Lfts (step_lfts Ps) → Ins Ps → Fml
 in_own [] κs d = ftrue
 in_own (val X ∷ Ps) κs d = fsep (X.R.own_val d.0 (X.val d.0 ∷ [])) (in_own Ps κs d.1)
-in_own (slice_of m T ∷ Ps) κs d = fsep ((Slice m erased κs.0 T.R).own_val d.0 (shr_slice_vals d.0)) (in_own Ps κs.1 d.1)
+in_own (slice_of m T ∷ Ps) κs d = fsep ((Slice m erased κs.0 T.R).own_val d.0 (slice_of_val m T d.0 ∷ [])) (in_own Ps κs.1 d.1)
 in_own (ref_to m R ∷ Ps) κs d = fsep (R.R.own_val d.0 (R.val d.0 ∷ [])) (in_own Ps κs d.1)
 
 abbrev pub handed : (Ps : List Param) → Ins Ps → Tuple (slots Ps)
@@ -119,7 +112,7 @@ module _ (n : ℕ) (κs : Lfts n) where
   abbrev pub in_spells : (j : ℕ) (Ps : List Param) (at : Lfts n → Lfts (step_lfts Ps)) → Spells (step_types n κs j Ps at)
   in_spells j [] at = tt
   in_spells j (val X ∷ Ps) at = ((λ x. X.val x ∷ []), in_spells j Ps at)
-  in_spells j (slice_of m T ∷ Ps) at = (shr_slice_vals, in_spells (suc j) Ps (λ ls. (at ls).1))
+  in_spells j (slice_of m T ∷ Ps) at = ((λ x. slice_of_val m T x ∷ []), in_spells (suc j) Ps (λ ls. (at ls).1))
   in_spells j (ref_to m R ∷ Ps) at = ((λ x. R.val x ∷ []), in_spells j Ps at)
 
   pub in-tell : (j : ℕ) (Ps : List Param) (at : Lfts n → Lfts (step_lfts Ps)) → Tellss (step_types n κs j Ps at) (Ises (step_types n κs j Ps at)) (in_spells j Ps at)
@@ -161,8 +154,8 @@ module _ (n : ℕ) (κs : Lfts n) where
   abbrev pub out_vals : (j : ℕ) (Ps : List Param) (at : Lfts n → Lfts (fn_lfts Ps)) → Inputs Ps → Valss (fn_types n κs j Ps at)
   out_vals j [] at d = tt
   out_vals j (val X ∷ Ps) at d = (X.val d.0 ∷ [], out_vals j Ps at d.1)
-  out_vals j (slice_of m T ∷ Ps) at d = (shr_slice_vals d.0, out_vals (suc j) Ps (λ ls. (at ls).1) d.1)
-  out_vals j (ref_to m R ∷ Ps) at d = (shr_vals d.0, out_vals (suc j) Ps (λ ls. (at ls).1) d.1)
+  out_vals j (slice_of m T ∷ Ps) at d = (slice_of_val m T d.0 ∷ [], out_vals (suc j) Ps (λ ls. (at ls).1) d.1)
+  out_vals j (ref_to m R ∷ Ps) at d = (ref_val m R d.0 ∷ [], out_vals (suc j) Ps (λ ls. (at ls).1) d.1)
 
   pub out-flat : (j : ℕ) (Ps : List Param) (at : Lfts n → Lfts (fn_lfts Ps)) (d : Inputs Ps) → flat (fn_types n κs j Ps at) (out_vals j Ps at d) ≡ fn_vals Ps d
   out-flat j [] at d = refl
@@ -185,12 +178,17 @@ Loans (val X ∷ Ps) = Loans Ps
 Loans (slice_of m T ∷ Ps) = Loans Ps
 Loans (ref_to m R ∷ Ps) = (ℕ × GName) × Loans Ps
 
+-- the reference to the record x in the block b, whose name a `&` has none of
+abbrev at_block : (m : Mutability) (R : One) → R.R.Denot → ℕ → GName → Of m R.R.Denot
+at_block imm R x b γ = record { ref_ptr = (b, zero); now = x }
+at_block mut R x b γ = record { ref_ptr = (b, zero); ghost_name = γ; now = x }
+
 -- what the step is called with: the records in the blocks hs
 abbrev pub lent_in : (Ps : List Param) → Ins Ps → Blocks (tys (slots Ps)) → Loans Ps → Inputs Ps
 lent_in [] d hs l = tt
 lent_in (val X ∷ Ps) d hs l = (d.0, lent_in Ps d.1 hs l)
 lent_in (slice_of m T ∷ Ps) d hs l = (d.0, lent_in Ps d.1 hs l)
-lent_in (ref_to m R ∷ Ps) d hs l = (record { ref_ptr = (hs.0, zero); ghost_name = l.0.1; now = d.0 }, lent_in Ps d.1 hs.1 l.1)
+lent_in (ref_to m R ∷ Ps) d hs l = (at_block m R d.0 hs.0 l.0.1, lent_in Ps d.1 hs.1 l.1)
 
 abbrev pub out_lft : (Ps : List Param) → Lfts (step_lfts Ps) → Loans Ps → Lfts (fn_lfts Ps)
 out_lft [] κs l = tt
@@ -284,7 +282,7 @@ module _ {M : Type 1} {𝓤 : Ura M} {𝓛 : Logic 𝓤} {K : Type 0} where
   -- a record x is lent from the block b; of the other parameters, go makes what is owned, Fs, the tokens, Ts, and what the lender keeps, Ws
   borrow-one : K → {G : Goal 𝓤 H} {L : Type 0} {Os Ks Cs : Fml} {Fs Ts Ws : L → Fml} → Soaks G → ((Γ : List (Item 𝓤)) → ((l : L) → Seq K 𝓛 (‵ (Fs l) ∷ ‵ (Ts l) ∷ ‵ (Ws l) ∷ Γ) G) → Seq K 𝓛 (‵ Os ∷ ‵ Ks ∷ ‵ Cs ∷ Γ) G)
       → (m : Mutability) (R : One) (x : R.R.Denot) (b : ℕ) {Γ : List (Item 𝓤)}
-      → ((ν : ℕ) (γ : GName) (l : L) → Seq K 𝓛 (‵ (fsep ((Ref m erased (ν ∷ []) R.R).own_val (record { ref_ptr = (b, zero); ghost_name = γ; now = x }) (vptr b zero ∷ [])) (Fs l)) ∷ ‵ (fsep (flft (ν ∷ []) full_share) (Ts l)) ∷ ‵ (fsep (fsep (flent (ν ∷ []) (lent_body m R x b γ)) (fdies R.τ b)) (Ws l)) ∷ Γ) G)
+      → ((ν : ℕ) (γ : GName) (l : L) → Seq K 𝓛 (‵ (fsep ((Ref m erased (ν ∷ []) R.R).own_val (at_block m R x b γ) (ref_val m R (at_block m R x b γ) ∷ [])) (Fs l)) ∷ ‵ (fsep (flft (ν ∷ []) full_share) (Ts l)) ∷ ‵ (fsep (fsep (flent (ν ∷ []) (lent_body m R x b γ)) (fdies R.τ b)) (Ws l)) ∷ Γ) G)
       → Seq K 𝓛 (‵ (fsep (R.R.own_val x (R.val x ∷ [])) Os) ∷ ‵ Ks ∷ ‵ (fsep (cell R.τ b (R.val x)) Cs) ∷ Γ) G
   borrow-one t a go mut R x b k =
       fsplit t $ move t (3 ∷ []) $ fsplit t $ fsplit t $ move t (0 ∷ 3 ∷ []) $ goes t R x b (
@@ -295,8 +293,8 @@ module _ {M : Type 1} {𝓤 : Ura M} {𝓛 : Logic 𝓤} {K : Type 0} where
       move t (5 ∷ 6 ∷ 4 ∷ []) $ go _ (λ l. move t (3 ∷ 0 ∷ []) $ fjoin t $ move t (4 ∷ 1 ∷ []) $ fjoin t $ move t (3 ∷ 4 ∷ []) $ fjoin t $ move t (0 ∷ 3 ∷ []) $ fjoin t $ move t (2 ∷ 1 ∷ 0 ∷ []) $ k ν γ l))))
   borrow-one t a go imm R x b k =
       fsplit t $ move t (3 ∷ []) $ fsplit t $ fsplit t $ move t (0 ∷ 3 ∷ []) $ goes t R x b (lft_new t a (λ ν. move t (1 ∷ []) $
-      use1 𝓛 (later (some (λ (γ : GName). ‵ ((ShrRef erased (ν ∷ []) R.R).own_val (record { ref_ptr = (b, zero); ghost_name = γ; now = x }) (vptr b zero ∷ [])) ⊛ ‵ (flent (ν ∷ []) (part_at R.R full_share x b zero))))) (lends_shr 𝓛 R.R erased (ν ∷ []) full_share x b zero) $ await t a $ pick t (λ γ. split t $
-      move t (5 ∷ 6 ∷ 4 ∷ []) $ go _ (λ l. move t (3 ∷ 0 ∷ []) $ fjoin t $ move t (4 ∷ 1 ∷ []) $ fjoin t $ move t (3 ∷ 4 ∷ []) $ fjoin t $ move t (0 ∷ 3 ∷ []) $ fjoin t $ move t (2 ∷ 1 ∷ 0 ∷ []) $ k ν γ l))))
+      use1 𝓛 (later (‵ ((ShrRef erased (ν ∷ []) R.R).own_val (record { ref_ptr = (b, zero); now = x }) (vptr b zero ∷ [])) ⊛ ‵ (flent (ν ∷ []) (part_at R.R full_share x b zero)))) (lends_free 𝓛 R.R erased (ν ∷ []) full_share x b zero ((R.copied M 𝓤 𝓛).lends full_share x b zero)) $ await t a $ split t $
+      move t (5 ∷ 6 ∷ 4 ∷ []) $ go _ (λ l. move t (3 ∷ 0 ∷ []) $ fjoin t $ move t (4 ∷ 1 ∷ []) $ fjoin t $ move t (3 ∷ 4 ∷ []) $ fjoin t $ move t (0 ∷ 3 ∷ []) $ fjoin t $ move t (2 ∷ 1 ∷ 0 ∷ []) $ k ν zero l)))
 
   -- the loans, from [what the parameters own; the tokens; the records' places]
   pub borrow : K → (Ps : List Param) (d : Ins Ps) (hs : Blocks (tys (slots Ps))) (κs : Lfts (step_lfts Ps)) (qs : Shares (step_lfts Ps)) {G : Goal 𝓤 H} → Soaks G → (Γ : List (Item 𝓤))
@@ -388,22 +386,25 @@ module _ {M : Type 1} {𝓤 : Ura M} {𝓛 : Logic 𝓤} {K : Type 0} {E : Env �
   operands-are t j (slice_of mut T ∷ Ps) bs hs ts d l f g E₁ E₃ at_f at_g hf hg =
       and_then t (load t (from_at t (at_g 1) (stop t)) (reads t (has_first (has_first (has-second hg)))))
       (operands-are t (suc j) Ps bs.1 hs ts.1.1 d.1 l (λ i. f (suc i)) (λ i. g (suc (suc i))) E₁ E₃ (λ i. at_f (suc i)) (λ i. at_g (suc (suc i))) (has-second hf) (has-second (has-second hg)))
-  operands-are t j (ref_to m R ∷ Ps) bs hs ts d l f g E₁ E₃ at_f at_g hf hg =
+  operands-are t j (ref_to imm R ∷ Ps) bs hs ts d l f g E₁ E₃ at_f at_g hf hg =
+      and_then t (load t (from_at t (at_g 0) (stop t)) (reads t (has_first (has_first hg))))
+      (operands-are t j Ps bs.1 hs.1 ts.1 d.1 l.1 (λ i. f (suc i)) (λ i. g (suc i)) E₁ E₃ (λ i. at_f (suc i)) (λ i. at_g (suc i)) (has-second hf) (has-second hg))
+  operands-are t j (ref_to mut R ∷ Ps) bs hs ts d l f g E₁ E₃ at_f at_g hf hg =
       and_then t (load t (from_at t (at_g 0) (stop t)) (reads t (has_first (has_first hg))))
       (operands-are t j Ps bs.1 hs.1 ts.1 d.1 l.1 (λ i. f (suc i)) (λ i. g (suc i)) E₁ E₃ (λ i. at_f (suc i)) (λ i. at_g (suc i)) (has-second hf) (has-second hg))
 
 -- ---- at exit: plain data is seen as it was passed
 abbrev IsStill : {D : Type 0} → Exit D → Type 0
 IsStill unchanged = Unit {0}
-IsStill (leaves L l S s) = ⊥
+IsStill (leaves L l S s r₀) = ⊥
 
 abbrev last_of : {D : Type 0} (e : Exit D) → IsStill e → (x : D) → Last e x
 last_of unchanged st x = tt
-last_of (leaves L l S s) st x = absurd st
+last_of (leaves L l S s r₀) st x = absurd st
 
 left-of : {D : Type 0} (e : Exit D) (st : IsStill e) (x : D) → left e x (last_of e st x) ≡ ftrue
 left-of unchanged st x = refl
-left-of (leaves L l S s) st x = absurd st
+left-of (leaves L l S s r₀) st x = absurd st
 
 abbrev pub Stills : List Param → Type 0
 Stills [] = Unit {0}
@@ -421,12 +422,12 @@ module _ (n : ℕ) (κs : Lfts n) (n₁ : ℕ) (κs₁ : Lfts n₁) where
   lastly j i (slice_of mut T ∷ Ps) at at₁ st hs l a ws = (ws.0, lastly (suc j) (suc i) Ps (λ ls. (at ls).1) (λ ls. (at₁ ls).1) st hs l a.1 ws.1)
   lastly j i (ref_to m R ∷ Ps) at at₁ st hs l a ws = (last_of (R.R.exit yes) st.0 a.0, lastly j (suc i) Ps at (λ ls. (at₁ ls).1) st.1 hs.1 l.1 a.1 ws.1)
 
-  pub left-run : {M : Type 1} {𝓤 : Ura M} {𝓛 : Logic 𝓤} {K : Type 0} {G : Goal 𝓤 𝓛.H} → K → (j i : ℕ) (Ps : List Param) (at : Lfts n → Lfts (step_lfts Ps)) (at₁ : Lfts n₁ → Lfts (fn_lfts Ps)) (st : Stills Ps) (hs : Blocks (tys (slots Ps))) (l : Loans Ps)
+  pub left-run : {M : Type 1} {𝓤 : Ura M} {𝓛 : Logic 𝓤} {K : Type 0} {G : Goal 𝓤 𝓛.H} → K → (j i : ℕ) (Ps : List Param) (at : Lfts n → Lfts (step_lfts Ps)) (at₁ : Lfts n₁ → Lfts (fn_lfts Ps)) (st : Stills Ps) (hs : Blocks (tys (slots Ps))) (l : Loans Ps) → out_lft Ps (at κs) l ≡ at₁ κs₁ →
       (a : Denots (step_types n κs j Ps at)) (ws : Fins {n = n₁} κs₁ (fn_slots n₁ i Ps at₁) (all yes (fn_slots n₁ i Ps at₁)) (outs n₁ κs₁ i Ps at₁ (lent_in Ps (ins n κs j Ps at a) hs l))) (Γ : List (Item 𝓤))
       → Seq K 𝓛 (‵ (lasts_of {n = n} κs (step_slots n j Ps at) (all yes (step_slots n j Ps at)) a (lastly j i Ps at at₁ st hs l a ws)) ∷ Γ) G
       → Seq K 𝓛 (‵ (lasts_of {n = n₁} κs₁ (fn_slots n₁ i Ps at₁) (all yes (fn_slots n₁ i Ps at₁)) (outs n₁ κs₁ i Ps at₁ (lent_in Ps (ins n κs j Ps at a) hs l)) ws) ∷ Γ) G
-  left-run t j i [] at at₁ st hs l a ws Γ s = s
-  left-run t j i (val X ∷ Ps) at at₁ st hs l a ws Γ s = fsplit t $ move t (1 ∷ []) $ left-run t j i Ps at at₁ st hs l a.1 ws.1 _ (move t (1 ∷ 0 ∷ []) $ fjoin t $ s)
-  left-run t j i (slice_of imm T ∷ Ps) at at₁ st hs l a ws Γ s = fsplit t $ move t (1 ∷ []) $ left-run t (suc j) (suc i) Ps (λ ls. (at ls).1) (λ ls. (at₁ ls).1) st hs l a.1 ws.1 _ (move t (1 ∷ 0 ∷ []) $ fjoin t $ s)
-  left-run t j i (slice_of mut T ∷ Ps) at at₁ st hs l a ws Γ s = fsplit t $ move t (1 ∷ []) $ left-run t (suc j) (suc i) Ps (λ ls. (at ls).1) (λ ls. (at₁ ls).1) st hs l a.1 ws.1 _ (move t (1 ∷ 0 ∷ []) $ fjoin t $ s)
-  left-run t j i (ref_to m R ∷ Ps) at at₁ st hs l a ws Γ s = fsplit t $ drop t $ left-run t j (suc i) Ps at (λ ls. (at₁ ls).1) st.1 hs.1 l.1 a.1 ws.1 _ (nothing t $ rewrite t 0 (λ (F : Fml). ‵ F) (sym (left-of (R.R.exit yes) st.0 a.0)) refl $ fjoin t $ s)
+  left-run t j i [] at at₁ st hs l e a ws Γ s = s
+  left-run t j i (val X ∷ Ps) at at₁ st hs l e a ws Γ s = fsplit t $ move t (1 ∷ []) $ left-run t j i Ps at at₁ st hs l e a.1 ws.1 _ (move t (1 ∷ 0 ∷ []) $ fjoin t $ s)
+  left-run t j i (slice_of imm T ∷ Ps) at at₁ st hs l e a ws Γ s = fsplit t $ move t (1 ∷ []) $ left-run t (suc j) (suc i) Ps (λ ls. (at ls).1) (λ ls. (at₁ ls).1) st hs l (ap (λ (κs' : Lfts (fn_lfts (slice_of imm T ∷ Ps))). κs'.1) e) a.1 ws.1 _ (move t (1 ∷ 0 ∷ []) $ fjoin t $ s)
+  left-run t j i (slice_of mut T ∷ Ps) at at₁ st hs l e a ws Γ s = rewrite t 0 (λ (κ : Lft). ‵ (fsep (left ((MutSlice erased κ T.R).exit yes) a.0 ws.0) (lasts_of {n = n₁} κs₁ (fn_slots n₁ (suc i) Ps (λ ls. (at₁ ls).1)) (all yes (fn_slots n₁ (suc i) Ps (λ ls. (at₁ ls).1))) (outs n₁ κs₁ (suc i) Ps (λ ls. (at₁ ls).1) (lent_in Ps (ins n κs (suc j) Ps (λ ls. (at ls).1) a.1) hs l)) ws.1))) (sym (ap (λ (κs' : Lfts (fn_lfts (slice_of mut T ∷ Ps))). κs'.0) e)) refl $ fsplit t $ move t (1 ∷ []) $ left-run t (suc j) (suc i) Ps (λ ls. (at ls).1) (λ ls. (at₁ ls).1) st hs l (ap (λ (κs' : Lfts (fn_lfts (slice_of mut T ∷ Ps))). κs'.1) e) a.1 ws.1 _ (move t (1 ∷ 0 ∷ []) $ fjoin t $ s)
+  left-run t j i (ref_to m R ∷ Ps) at at₁ st hs l e a ws Γ s = fsplit t $ drop t $ left-run t j (suc i) Ps at (λ ls. (at₁ ls).1) st.1 hs.1 l.1 (ap (λ (κs' : Lfts (fn_lfts (ref_to m R ∷ Ps))). κs'.1) e) a.1 ws.1 _ (nothing t $ rewrite t 0 (λ (F : Fml). ‵ F) (sym (left-of (R.R.exit yes) st.0 a.0)) refl $ fjoin t $ s)

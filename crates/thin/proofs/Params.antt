@@ -6,13 +6,13 @@ use mathlib.Core.Option.{some}
 use mathlib.Core.List.{List, [], ◌∷◌, ◌++◌}
 use lib.ListN.{length, get_or}
 use seplogic.Ra.Ura.{Ura}
-use seplogic.Ra.TreeShare.{full_share}
+use base.Fraction.{full_share}
 use mir.Syntax.{Sym, Lifetime, Mutability, Ty, ty_ref, ty_struct, Tys, imm, mut, named, erased, wrote, place, deref, field, Opd as Operand, copy, rv_opd, addr_of, aggregate, Body as Code, seq, assign}
 use mir.Val.{Val, vptr, vstruct, Vals}
 use mir.Fields.{get_v}
 use base.Logic.{sep}
-use base.Stored.{Gv, coded_list}
-use base.Fml.{Lft, Share, GName, Fml, ftrue, fsep, fat, flft, fobs, fauth, fobor, fres}
+use base.Stored.{Gv, Coded, coded_list}
+use base.Fml.{Lft, Share, GName, Fml, ftrue, fsep, fat, flft, fobs, fauth, fbor, fobor, fres}
 use prog.Memory.{field_at}
 use prog.Wp.{Heap, Env, Calls, Loops, no_local}
 use types.Logic.{Logic, sem}
@@ -24,50 +24,97 @@ use contract.Lifetimes.{Lfts, Shares, toks}
 use denote.RattleType.{RattleType, Denots, Valss, flat, owns}
 use denote.Memory.{mem, cell_at, pointee}
 use denote.Laws.{Is, Ises, Are, Typed, Spells, valss, Tells, Tellss, shows}
-use denote.Ref.{Bor, MutBor, shr_coded, MutRef, ShrRef, shr_vals, mut_Tells, shr_Tells}
-use denote.Slice.{slice_ty, slice_val, shr_slice_vals, mut_slice_vals, MutSlice, ShrSlice, mut_slice_Tells, shr_slice_Tells}
+use denote.Ref.{Bor, MutBor, shr_coded, mut_coded, MutRef, ShrRef, mut_Tells, shr_Tells}
+use denote.Slice.{slice_ty, slice_val, mut_slice_vals, MutSlice, ShrSlice, mut_slice_Tells, shr_slice_Tells}
 use denote.Signature.{Slot, plain, types_at}
 use denote.Steps.{opens, closes, looks, shuts, owned, peeks, facts, nothing}
 use denote.Struct.Steps.{spelt}
 use denote.Triple.End.{all, Fins, lasts_of}
-use denote.Exit.{yes}
-use Rattle.thin.proofs.Types.{One, IsOne, fine-one, copy-one, Tuple, tuple_tys, tuple_vals, IsTuple, Param, val, slice_of, ref_to, records}
+use denote.Exit.{Kept, Exit, left, yes}
+use Rattle.thin.proofs.Types.{One, IsOne, fine-one, Tuple, tuple_tys, tuple_vals, IsTuple, Param, val, slice_of, ref_to, records}
 use Rattle.thin.proofs.Locals.{cell, space, Blocks, env, rooms, cells, Has, has_first, has-second, reads, read_as, from_at}
 
 -- ---- the types of the references: `denote.Slice`'s and `denote.Ref`'s, with the mutability for an argument
-abbrev by-mut {ℓ} : {X : Type ℓ} → Mutability → X → X → X
-by-mut imm x y = x
-by-mut mut x y = y
+abbrev pub Of : Mutability → Type 0 → Type 0
+Of imm X = Bor X
+Of mut X = MutBor X
+
+-- where it points, its value, and its machine value
+abbrev pub place_of : (m : Mutability) (X : Type 0) → Of m X → ℕ × ℕ
+place_of imm X x = x.ref_ptr
+place_of mut X x = x.ref_ptr
+
+abbrev pub now_of : (m : Mutability) (X : Type 0) → Of m X → X
+now_of imm X x = x.now
+now_of mut X x = x.now
+
+abbrev pub ref_val : (m : Mutability) (R : One) → Of m R.R.Denot → Val
+ref_val m R x = vptr (place_of m R.R.Denot x).0 (place_of m R.R.Denot x).1
+
+abbrev pub slice_of_val : (m : Mutability) (T : One) → Of m (List T.R.Denot) → Val
+slice_of_val m T x = slice_val (place_of m (List T.R.Denot) x) (length (now_of m (List T.R.Denot) x))
+
+abbrev of_coded : (m : Mutability) (X : Type 0) → Coded X → Coded (Of m X)
+of_coded imm X c = shr_coded c
+of_coded mut X c = mut_coded c
+
+abbrev slice_own : (m : Mutability) → Lifetime → Lft → (R : RattleType) → Of m (List R.Denot) → List Val → Fml
+slice_own imm ℓ κ R = (ShrSlice ℓ κ R).own_val
+slice_own mut ℓ κ R = (MutSlice ℓ κ R).own_val
+
+abbrev slice_exit : (m : Mutability) → Lifetime → Lft → (R : RattleType) → Kept → Exit (Of m (List R.Denot))
+slice_exit imm ℓ κ R = (ShrSlice ℓ κ R).exit
+slice_exit mut ℓ κ R = (MutSlice ℓ κ R).exit
+
+abbrev slice_shr : (m : Mutability) → Lifetime → Lft → (R : RattleType) → Of m (List R.Denot) → ℕ → ℕ → Lft → Fml
+slice_shr imm ℓ κ R = (ShrSlice ℓ κ R).shr_at
+slice_shr mut ℓ κ R = (MutSlice ℓ κ R).shr_at
 
 abbrev pub Slice : Mutability → Lifetime → Lft → RattleType → RattleType
 Slice m ℓ κ R = record {
-  Denot = Bor (List R.Denot);
+  Denot = Of m (List R.Denot);
   mir = slice_ty (ty_ref ℓ m (pointee R.written)) ∷ [];
   written = wrote (slice_ty (ty_ref ℓ m (pointee R.written)));
   reaches = (R.written, R.mir) ∷ R.reaches;
-  own_val = by-mut m (ShrSlice ℓ κ R).own_val (MutSlice ℓ κ R).own_val;
-  exit = by-mut m (ShrSlice ℓ κ R).exit (MutSlice ℓ κ R).exit;
-  coded = shr_coded (coded_list R.coded);
+  lives = κ ++ R.lives;
+  own_val = slice_own m ℓ κ R;
+  exit = slice_exit m ℓ κ R;
+  coded = of_coded m (List R.Denot) (coded_list R.coded);
+  shr_at = slice_shr m ℓ κ R;
 }
+
+abbrev ref_own : (m : Mutability) → Lifetime → Lft → (R : RattleType) → Of m R.Denot → List Val → Fml
+ref_own imm ℓ κ R = (ShrRef ℓ κ R).own_val
+ref_own mut ℓ κ R = (MutRef ℓ κ R).own_val
+
+abbrev ref_exit : (m : Mutability) → Lifetime → Lft → (R : RattleType) → Kept → Exit (Of m R.Denot)
+ref_exit imm ℓ κ R = (ShrRef ℓ κ R).exit
+ref_exit mut ℓ κ R = (MutRef ℓ κ R).exit
+
+abbrev ref_shr : (m : Mutability) → Lifetime → Lft → (R : RattleType) → Of m R.Denot → ℕ → ℕ → Lft → Fml
+ref_shr imm ℓ κ R = (ShrRef ℓ κ R).shr_at
+ref_shr mut ℓ κ R = (MutRef ℓ κ R).shr_at
 
 abbrev pub Ref : Mutability → Lifetime → Lft → RattleType → RattleType
 Ref m ℓ κ R = record {
-  Denot = Bor R.Denot;
+  Denot = Of m R.Denot;
   mir = ty_ref ℓ m (pointee R.written) ∷ [];
   written = wrote (ty_ref ℓ m (pointee R.written));
   reaches = (R.written, R.mir) ∷ R.reaches;
-  own_val = by-mut m (ShrRef ℓ κ R).own_val (MutRef ℓ κ R).own_val;
-  exit = by-mut m (ShrRef ℓ κ R).exit (MutRef ℓ κ R).exit;
-  coded = shr_coded R.coded;
+  lives = κ ++ R.lives;
+  own_val = ref_own m ℓ κ R;
+  exit = ref_exit m ℓ κ R;
+  coded = of_coded m R.Denot R.coded;
+  shr_at = ref_shr m ℓ κ R;
 }
 
-slice-tells : (m : Mutability) (ℓ : Lifetime) (κ : Lft) (R : RattleType) → Tells (Slice m ℓ κ R) (Is (Slice m ℓ κ R)) shr_slice_vals
-slice-tells imm ℓ κ R = shr_slice_Tells ℓ κ R
-slice-tells mut ℓ κ R = mut_slice_Tells ℓ κ R
+slice-tells : (m : Mutability) (ℓ : Lifetime) (κ : Lft) (T : One) → Tells (Slice m ℓ κ T.R) (Is (Slice m ℓ κ T.R)) (λ x. slice_of_val m T x ∷ [])
+slice-tells imm ℓ κ T = shr_slice_Tells ℓ κ T.R
+slice-tells mut ℓ κ T = mut_slice_Tells ℓ κ T.R
 
-ref-tells : (m : Mutability) (ℓ : Lifetime) (κ : Lft) (R : RattleType) → Tells (Ref m ℓ κ R) (Is (Ref m ℓ κ R)) shr_vals
-ref-tells imm ℓ κ R = shr_Tells ℓ κ R
-ref-tells mut ℓ κ R = mut_Tells ℓ κ R
+ref-tells : (m : Mutability) (ℓ : Lifetime) (κ : Lft) (R : One) → Tells (Ref m ℓ κ R.R) (Is (Ref m ℓ κ R.R)) (λ x. ref_val m R x ∷ [])
+ref-tells imm ℓ κ R = shr_Tells ℓ κ R.R
+ref-tells mut ℓ κ R = mut_Tells ℓ κ R.R
 
 -- ---- lifetimes: one for each reference. The step has those of the slices
 abbrev pub fn_lfts : List Param → ℕ
@@ -120,33 +167,33 @@ step_slots n j (ref_to m R ∷ Ps) at = plain (λ _. R.R) ∷ step_slots n j Ps 
 abbrev pub Inputs : List Param → Type 0
 Inputs [] = Unit {0}
 Inputs (val X ∷ Ps) = X.R.Denot × Inputs Ps
-Inputs (slice_of m T ∷ Ps) = Bor (List T.R.Denot) × Inputs Ps
-Inputs (ref_to m R ∷ Ps) = Bor R.R.Denot × Inputs Ps
+Inputs (slice_of m T ∷ Ps) = Of m (List T.R.Denot) × Inputs Ps
+Inputs (ref_to m R ∷ Ps) = Of m R.R.Denot × Inputs Ps
 
 -- their machine values, and what they own: the function's and the step's
 abbrev pub fn_vals : (Ps : List Param) → Inputs Ps → List Val
 fn_vals [] d = []
 fn_vals (val X ∷ Ps) d = X.val d.0 ∷ fn_vals Ps d.1
-fn_vals (slice_of m T ∷ Ps) d = slice_val d.0.ref_ptr (length d.0.now) ∷ fn_vals Ps d.1
-fn_vals (ref_to m R ∷ Ps) d = vptr d.0.ptr.0 d.0.ptr.1 ∷ fn_vals Ps d.1
+fn_vals (slice_of m T ∷ Ps) d = slice_of_val m T d.0 ∷ fn_vals Ps d.1
+fn_vals (ref_to m R ∷ Ps) d = ref_val m R d.0 ∷ fn_vals Ps d.1
 
 abbrev pub step_vals : (Ps : List Param) → Inputs Ps → List Val
 step_vals [] d = []
 step_vals (val X ∷ Ps) d = X.val d.0 ∷ step_vals Ps d.1
-step_vals (slice_of m T ∷ Ps) d = slice_val d.0.ref_ptr (length d.0.now) ∷ step_vals Ps d.1
-step_vals (ref_to m R ∷ Ps) d = R.val d.0.now ∷ step_vals Ps d.1
+step_vals (slice_of m T ∷ Ps) d = slice_of_val m T d.0 ∷ step_vals Ps d.1
+step_vals (ref_to m R ∷ Ps) d = R.val (now_of m R.R.Denot d.0) ∷ step_vals Ps d.1
 
 abbrev pub fn_own : (Ps : List Param) → Lfts (fn_lfts Ps) → Inputs Ps → Fml
 fn_own [] κs d = ftrue
 fn_own (val X ∷ Ps) κs d = fsep (X.R.own_val d.0 (X.val d.0 ∷ [])) (fn_own Ps κs d.1)
-fn_own (slice_of m T ∷ Ps) κs d = fsep ((Slice m erased κs.0 T.R).own_val d.0 (shr_slice_vals d.0)) (fn_own Ps κs.1 d.1)
-fn_own (ref_to m R ∷ Ps) κs d = fsep ((Ref m erased κs.0 R.R).own_val d.0 (shr_vals d.0)) (fn_own Ps κs.1 d.1)
+fn_own (slice_of m T ∷ Ps) κs d = fsep ((Slice m erased κs.0 T.R).own_val d.0 (slice_of_val m T d.0 ∷ [])) (fn_own Ps κs.1 d.1)
+fn_own (ref_to m R ∷ Ps) κs d = fsep ((Ref m erased κs.0 R.R).own_val d.0 (ref_val m R d.0 ∷ [])) (fn_own Ps κs.1 d.1)
 
 abbrev pub step_own : (Ps : List Param) → Lfts (step_lfts Ps) → Inputs Ps → Fml
 step_own [] κs d = ftrue
 step_own (val X ∷ Ps) κs d = fsep (X.R.own_val d.0 (X.val d.0 ∷ [])) (step_own Ps κs d.1)
-step_own (slice_of m T ∷ Ps) κs d = fsep ((Slice m erased κs.0 T.R).own_val d.0 (shr_slice_vals d.0)) (step_own Ps κs.1 d.1)
-step_own (ref_to m R ∷ Ps) κs d = fsep (R.R.own_val d.0.now (R.val d.0.now ∷ [])) (step_own Ps κs d.1)
+step_own (slice_of m T ∷ Ps) κs d = fsep ((Slice m erased κs.0 T.R).own_val d.0 (slice_of_val m T d.0 ∷ [])) (step_own Ps κs.1 d.1)
+step_own (ref_to m R ∷ Ps) κs d = fsep (R.R.own_val (now_of m R.R.Denot d.0) (R.val (now_of m R.R.Denot d.0) ∷ [])) (step_own Ps κs d.1)
 
 -- at the function's signature
 module _ (n : ℕ) (κs : Lfts n) where
@@ -162,14 +209,14 @@ module _ (n : ℕ) (κs : Lfts n) where
   abbrev pub spells : (j : ℕ) (Ps : List Param) (at : Lfts n → Lfts (fn_lfts Ps)) → Spells (fn_types j Ps at)
   spells j [] at = tt
   spells j (val X ∷ Ps) at = ((λ x. X.val x ∷ []), spells j Ps at)
-  spells j (slice_of m T ∷ Ps) at = (shr_slice_vals, spells (suc j) Ps (λ ls. (at ls).1))
-  spells j (ref_to m R ∷ Ps) at = (shr_vals, spells (suc j) Ps (λ ls. (at ls).1))
+  spells j (slice_of m T ∷ Ps) at = ((λ x. slice_of_val m T x ∷ []), spells (suc j) Ps (λ ls. (at ls).1))
+  spells j (ref_to m R ∷ Ps) at = ((λ x. ref_val m R x ∷ []), spells (suc j) Ps (λ ls. (at ls).1))
 
   pub all_tell : (j : ℕ) (Ps : List Param) (at : Lfts n → Lfts (fn_lfts Ps)) → Tellss (fn_types j Ps at) (Ises (fn_types j Ps at)) (spells j Ps at)
   all_tell j [] at = tt
   all_tell j (val X ∷ Ps) at = (X.tells, all_tell j Ps at)
-  all_tell j (slice_of m T ∷ Ps) at = (slice-tells m (named j) (at κs).0 T.R, all_tell (suc j) Ps (λ ls. (at ls).1))
-  all_tell j (ref_to m R ∷ Ps) at = (ref-tells m (named j) (at κs).0 R.R, all_tell (suc j) Ps (λ ls. (at ls).1))
+  all_tell j (slice_of m T ∷ Ps) at = (slice-tells m (named j) (at κs).0 T, all_tell (suc j) Ps (λ ls. (at ls).1))
+  all_tell j (ref_to m R ∷ Ps) at = (ref-tells m (named j) (at κs).0 R, all_tell (suc j) Ps (λ ls. (at ls).1))
 
   -- the machine values in a row, and what the parameters own
   pub fn-flat : (j : ℕ) (Ps : List Param) (at : Lfts n → Lfts (fn_lfts Ps)) (a : Denots (fn_types j Ps at)) → flat (fn_types j Ps at) (valss (fn_types j Ps at) (spells j Ps at) a) ≡ fn_vals Ps (inputs j Ps at a)
@@ -196,13 +243,13 @@ module _ (n : ℕ) (κs : Lfts n) where
   step_inputs j [] at d = tt
   step_inputs j (val X ∷ Ps) at d = (d.0, step_inputs j Ps at d.1)
   step_inputs j (slice_of m T ∷ Ps) at d = (d.0, step_inputs (suc j) Ps (λ ls. (at ls).1) d.1)
-  step_inputs j (ref_to m R ∷ Ps) at d = (d.0.now, step_inputs j Ps at d.1)
+  step_inputs j (ref_to m R ∷ Ps) at d = (now_of m R.R.Denot d.0, step_inputs j Ps at d.1)
 
   abbrev pub step_input_vals : (j : ℕ) (Ps : List Param) (at : Lfts n → Lfts (step_lfts Ps)) → Inputs Ps → Valss (step_types j Ps at)
   step_input_vals j [] at d = tt
   step_input_vals j (val X ∷ Ps) at d = (X.val d.0 ∷ [], step_input_vals j Ps at d.1)
-  step_input_vals j (slice_of m T ∷ Ps) at d = (shr_slice_vals d.0, step_input_vals (suc j) Ps (λ ls. (at ls).1) d.1)
-  step_input_vals j (ref_to m R ∷ Ps) at d = (R.val d.0.now ∷ [], step_input_vals j Ps at d.1)
+  step_input_vals j (slice_of m T ∷ Ps) at d = (slice_of_val m T d.0 ∷ [], step_input_vals (suc j) Ps (λ ls. (at ls).1) d.1)
+  step_input_vals j (ref_to m R ∷ Ps) at d = (R.val (now_of m R.R.Denot d.0) ∷ [], step_input_vals j Ps at d.1)
 
   pub step-flat : (j : ℕ) (Ps : List Param) (at : Lfts n → Lfts (step_lfts Ps)) (d : Inputs Ps) → flat (step_types j Ps at) (step_input_vals j Ps at d) ≡ step_vals Ps d
   step-flat j [] at d = refl
@@ -216,6 +263,15 @@ module _ (n : ℕ) (κs : Lfts n) where
   step-owns j (slice_of imm T ∷ Ps) at d = rw (step-owns (suc j) Ps (λ ls. (at ls).1) d.1)
   step-owns j (slice_of mut T ∷ Ps) at d = rw (step-owns (suc j) Ps (λ ls. (at ls).1) d.1)
   step-owns j (ref_to m R ∷ Ps) at d = rw (step-owns j Ps at d.1)
+
+-- ---- data of these types, each in a local of its own
+abbrev pub tys : List One → List Ty
+tys [] = []
+tys (X ∷ Xs) = X.τ ∷ tys Xs
+
+abbrev pub vals : (Xs : List One) → Tuple Xs → List Val
+vals [] t = []
+vals (X ∷ Xs) t = X.val t.0 ∷ vals Xs t.1
 
 -- ---- the code. f has the locals of the parameters, and g those that are made for the call: a slice that is lent on has two, and a record's copy one
 abbrev pub fn_tys : ℕ → List Param → List Ty
@@ -236,7 +292,7 @@ temp_vals [] d = []
 temp_vals (val X ∷ Ps) d = temp_vals Ps d.1
 temp_vals (slice_of imm T ∷ Ps) d = temp_vals Ps d.1
 temp_vals (slice_of mut T ∷ Ps) d = vptr d.0.ref_ptr.0 d.0.ref_ptr.1 ∷ slice_val d.0.ref_ptr (length d.0.now) ∷ temp_vals Ps d.1
-temp_vals (ref_to m R ∷ Ps) d = R.val d.0.now ∷ temp_vals Ps d.1
+temp_vals (ref_to m R ∷ Ps) d = R.val (now_of m R.R.Denot d.0) ∷ temp_vals Ps d.1
 
 -- before the call
 abbrev pub lends : (f g : ℕ → ℕ) → List Param → Code → Code
@@ -256,16 +312,18 @@ operands f g (slice_of imm T ∷ Ps) = copy (place (f 0) []) ∷ operands (λ i.
 operands f g (slice_of mut T ∷ Ps) = copy (place (g 1) []) ∷ operands (λ i. f (suc i)) (λ i. g (suc (suc i))) Ps
 operands f g (ref_to m R ∷ Ps) = copy (place (g 0) []) ∷ operands (λ i. f (suc i)) (λ i. g (suc i)) Ps
 
--- after the call: each record that the step returns, the field k of the local z, is stored
-abbrev pub stores : (f : ℕ → ℕ) (z : ℕ) (k : ℕ → ℕ) → List Param → Code → Code
-stores f z k [] rest = rest
-stores f z k (val X ∷ Ps) rest = stores (λ i. f (suc i)) z k Ps rest
-stores f z k (slice_of m T ∷ Ps) rest = stores (λ i. f (suc i)) z k Ps rest
-stores f z k (ref_to imm R ∷ Ps) rest = stores (λ i. f (suc i)) z k Ps rest
-stores f z k (ref_to mut R ∷ Ps) rest = seq (assign (place (f 0) (deref R.τ ∷ [])) (rv_opd (copy (place z (field (k 0) ∷ []))))) (stores (λ i. f (suc i)) z (λ i. k (suc i)) Ps rest)
+-- after the call: each record that the step returns, the field k of the local z, is copied to the local e, and from there stored
+abbrev pub stores : (f : ℕ → ℕ) (z : ℕ) (k e : ℕ → ℕ) → List Param → Code → Code
+stores f z k e [] rest = rest
+stores f z k e (val X ∷ Ps) rest = stores (λ i. f (suc i)) z k e Ps rest
+stores f z k e (slice_of m T ∷ Ps) rest = stores (λ i. f (suc i)) z k e Ps rest
+stores f z k e (ref_to imm R ∷ Ps) rest = stores (λ i. f (suc i)) z k e Ps rest
+stores f z k e (ref_to mut R ∷ Ps) rest =
+    seq (assign (place (e 0) []) (rv_opd (copy (place z (field (k 0) ∷ [])))))
+    (seq (assign (place (f 0) (deref R.τ ∷ [])) (rv_opd (copy (place (e 0) [])))) (stores (λ i. f (suc i)) z (λ i. k (suc i)) (λ i. e (suc i)) Ps rest))
 
 -- ---- what is held while the step runs: the token of a `&R`, and the open borrow of a `&mut R`
-abbrev kept : Mutability → (R : One) → Lft → Share → MutBor R.R.Denot → Fml
+abbrev kept : (m : Mutability) (R : One) → Lft → Share → Of m R.R.Denot → Fml
 kept imm R κ q x = flft κ q
 kept mut R κ q x =
     fsep (cell_at full_share (R.τ ∷ []) (R.val x.now ∷ []) x.ref_ptr.0 x.ref_ptr.1)
@@ -283,7 +341,7 @@ stored [] κs qs d new = ftrue
 stored (val X ∷ Ps) κs qs d new = stored Ps κs qs d.1 new
 stored (slice_of m T ∷ Ps) κs qs d new = stored Ps κs.1 qs.1 d.1 new
 stored (ref_to imm R ∷ Ps) κs qs d new = fsep (flft κs.0 qs.0) (stored Ps κs.1 qs.1 d.1 new)
-stored (ref_to mut R ∷ Ps) κs qs d new = fsep (fsep (flft κs.0 qs.0) (fobs d.0.name (R.R.coded.code new.0))) (stored Ps κs.1 qs.1 d.1 new.1)
+stored (ref_to mut R ∷ Ps) κs qs d new = fsep (fsep (flft κs.0 qs.0) (fsep (fobs d.0.ghost_name (R.R.coded.code new.0)) (fbor κs.0 (Body (mem R.R) d.0.ref_ptr.0 d.0.ref_ptr.1 d.0.ghost_name)))) (stored Ps κs.1 qs.1 d.1 new.1)
 
 -- no `&mut R` among them: what is held is what is stored
 abbrev pub Still : List Param → Type 0
@@ -351,14 +409,14 @@ module _ {M : Type 1} {𝓤 : Ura M} {𝓛 : Logic 𝓤} {K : Type 0} {E : Env �
       lend-val (move t (6 ∷ 7 ∷ 1 ∷ []) $ fjoin t $ fjoin t $ move t (5 ∷ 4 ∷ []) $ fjoin t $ move t (2 ∷ 1 ∷ 3 ∷ 4 ∷ 0 ∷ []) $ s)
 
   -- the local f, of the block b, is a reference to a record, which is copied to the local g, of the block b₀. The borrow of a `&mut` is left open
-  lend-ref : (m : Mutability) (R : One) (x : Bor R.R.Denot) (κ : Lft) (p : Share) {ℓ : Lifetime} {τ : Ty} {f g b b₀ : ℕ} {Γ : List (Item 𝓤)} → get_or E f (no_local 𝓤 H) ≡ (ty_ref ℓ m τ, b) → get_or E g (no_local 𝓤 H) ≡ (R.τ, b₀)
-      → Seq K 𝓛 (‵ (fsep (cell (ty_ref ℓ m τ) b (vptr x.ref_ptr.0 x.ref_ptr.1)) Cs) ∷ ‵ (fsep (cell R.τ b₀ (R.val x.now)) Ts) ∷ ‵ (fsep (R.R.own_val x.now (R.val x.now ∷ [])) Ss) ∷ ‵ Ks ∷ ‵ (fsep (kept m R κ p x) Hs) ∷ Γ) (runs C Λ E rest q)
-      → Seq K 𝓛 (‵ (fsep (cell (ty_ref ℓ m τ) b (vptr x.ref_ptr.0 x.ref_ptr.1)) Cs) ∷ ‵ (fsep (space R.τ b₀) Rs) ∷ ‵ (fsep ((Ref m erased κ R.R).own_val x (shr_vals x)) Os) ∷ ‵ (fsep (flft κ p) Fs) ∷ Γ)
+  lend-ref : (m : Mutability) (R : One) (x : Of m R.R.Denot) (κ : Lft) (p : Share) {ℓ : Lifetime} {τ : Ty} {f g b b₀ : ℕ} {Γ : List (Item 𝓤)} → get_or E f (no_local 𝓤 H) ≡ (ty_ref ℓ m τ, b) → get_or E g (no_local 𝓤 H) ≡ (R.τ, b₀)
+      → Seq K 𝓛 (‵ (fsep (cell (ty_ref ℓ m τ) b (ref_val m R x)) Cs) ∷ ‵ (fsep (cell R.τ b₀ (R.val (now_of m R.R.Denot x))) Ts) ∷ ‵ (fsep (R.R.own_val (now_of m R.R.Denot x) (R.val (now_of m R.R.Denot x) ∷ [])) Ss) ∷ ‵ Ks ∷ ‵ (fsep (kept m R κ p x) Hs) ∷ Γ) (runs C Λ E rest q)
+      → Seq K 𝓛 (‵ (fsep (cell (ty_ref ℓ m τ) b (ref_val m R x)) Cs) ∷ ‵ (fsep (space R.τ b₀) Rs) ∷ ‵ (fsep ((Ref m erased κ R.R).own_val x (ref_val m R x ∷ [])) Os) ∷ ‵ (fsep (flft κ p) Fs) ∷ Γ)
       (runs C Λ E (seq (assign (place g []) (rv_opd (copy (place f (deref R.τ ∷ []))))) code) q)
   lend-ref imm R x κ p at_f at_g s =
-      fsplit t $ fsplit t $ move t (3 ∷ []) $ fsplit t $ fsplit t $ move t (6 ∷ []) $ fsplit t $ fsplit3 t $ drop t $ drop t $ move t (8 ∷ []) $ fsplit t $ move t (2 ∷ 0 ∷ []) $
-      -- [the borrow; its token; Fs; Os; the copy; ..; Rs; f; ..; Cs]
-      looks t tt R.R (Is R.R) (shows 𝓛 R.R) (λ y. R.val y ∷ []) R.tells (copy-one R 𝓛) x.now x.ref_ptr.0 x.ref_ptr.1 (λ q' vs.
+      fsplit t $ fsplit t $ move t (3 ∷ []) $ fsplit t $ fsplit t $ move t (6 ∷ []) $ fsplit t $ fsplit t $ drop t $ move t (8 ∷ []) $ fsplit t $ move t (2 ∷ 0 ∷ []) $
+      -- [what is shared; its token; Fs; Os; the copy; ..; Rs; f; ..; Cs]
+      looks t tt R.R (R.copied M 𝓤 𝓛).opens x.now x.ref_ptr.0 x.ref_ptr.1 (λ q' vs.
       spelt t R.R (Is R.R) (shows 𝓛 R.R) (λ y. R.val y ∷ []) R.tells q' x.now vs x.ref_ptr.0 x.ref_ptr.1 $
       move t (1 ∷ []) $ peeks t R.R (Is R.R) (shows 𝓛 R.R) x.now (R.val x.now ∷ []) (λ is. move t (1 ∷ 0 ∷ []) $
       rewrite t 0 (λ (τs : List Ty). ‵ (cell_at q' τs (R.val x.now ∷ []) x.ref_ptr.0 x.ref_ptr.1)) R.one refl $
@@ -377,34 +435,37 @@ module _ {M : Type 1} {𝓤 : Ura M} {𝓛 : Logic 𝓤} {K : Type 0} {E : Env �
       assigns t (of_opd t (load t (from_at t at_f (hop t (look t 9 refl) (stop t))) (look_raw t 0 refl))) (from_at t at_g (stop t)) (init t 6 refl (fine-one R 𝓛 x.now _ is)) $
       move t (2 ∷ 3 ∷ []) $ fjoin t $ move t (2 ∷ 0 ∷ []) $ fjoin t $ move t (1 ∷ 0 ∷ []) $ fjoin t $ lend-copied R x.now is s))
 
--- The same after the call: of the rest, what is held, Hs, becomes Ns. Zc is the cell of what the step returned
-module _ {M : Type 1} {𝓤 : Ura M} {𝓛 : Logic 𝓤} {K : Type 0} {E : Env 𝓤 𝓛.H} {C : Calls 𝓤 𝓛.H} {Λ : Loops 𝓤 𝓛.H} {q : Post 𝓤 𝓛.H} {code rest : Code} {Cs Zc Hs Ns : Fml} (t : K)
-    (go : (Γ : List (Item 𝓤)) → Seq K 𝓛 (‵ Cs ∷ ‵ Zc ∷ ‵ Ns ∷ Γ) (runs C Λ E rest q) → Seq K 𝓛 (‵ Cs ∷ ‵ Zc ∷ ‵ Hs ∷ Γ) (runs C Λ E code q)) where
-  store-none : {c : Fml} {Γ : List (Item 𝓤)} → Seq K 𝓛 (‵ (fsep c Cs) ∷ ‵ Zc ∷ ‵ Ns ∷ Γ) (runs C Λ E rest q) → Seq K 𝓛 (‵ (fsep c Cs) ∷ ‵ Zc ∷ ‵ Hs ∷ Γ) (runs C Λ E code q)
-  store-none s = fsplit t $ move t (1 ∷ 2 ∷ 3 ∷ []) $ go _ (move t (3 ∷ 0 ∷ []) $ fjoin t $ s)
+-- The same after the call: of the rest, what is held, Hs, becomes Ns, and room for the records, Xr, becomes Xc. Zc is the cell of what the step returned
+module _ {M : Type 1} {𝓤 : Ura M} {𝓛 : Logic 𝓤} {K : Type 0} {E : Env 𝓤 𝓛.H} {C : Calls 𝓤 𝓛.H} {Λ : Loops 𝓤 𝓛.H} {q : Post 𝓤 𝓛.H} {code rest : Code} {Cs Zc Hs Ns Xr Xc : Fml} (t : K)
+    (go : (Γ : List (Item 𝓤)) → Seq K 𝓛 (‵ Cs ∷ ‵ Zc ∷ ‵ Ns ∷ ‵ Xc ∷ Γ) (runs C Λ E rest q) → Seq K 𝓛 (‵ Cs ∷ ‵ Zc ∷ ‵ Hs ∷ ‵ Xr ∷ Γ) (runs C Λ E code q)) where
+  store-none : {c : Fml} {Γ : List (Item 𝓤)} → Seq K 𝓛 (‵ (fsep c Cs) ∷ ‵ Zc ∷ ‵ Ns ∷ ‵ Xc ∷ Γ) (runs C Λ E rest q) → Seq K 𝓛 (‵ (fsep c Cs) ∷ ‵ Zc ∷ ‵ Hs ∷ ‵ Xr ∷ Γ) (runs C Λ E code q)
+  store-none s = fsplit t $ move t (1 ∷ 2 ∷ 3 ∷ 4 ∷ []) $ go _ (move t (4 ∷ 0 ∷ []) $ fjoin t $ s)
 
   -- k is kept
-  store_kept : {c k : Fml} {Γ : List (Item 𝓤)} → Seq K 𝓛 (‵ (fsep c Cs) ∷ ‵ Zc ∷ ‵ (fsep k Ns) ∷ Γ) (runs C Λ E rest q) → Seq K 𝓛 (‵ (fsep c Cs) ∷ ‵ Zc ∷ ‵ (fsep k Hs) ∷ Γ) (runs C Λ E code q)
-  store_kept s = move t (2 ∷ []) $ fsplit t $ move t (2 ∷ 3 ∷ 1 ∷ []) $ store-none (move t (3 ∷ 2 ∷ []) $ fjoin t $ move t (1 ∷ 2 ∷ 0 ∷ []) $ s)
+  store_kept : {c k : Fml} {Γ : List (Item 𝓤)} → Seq K 𝓛 (‵ (fsep c Cs) ∷ ‵ Zc ∷ ‵ (fsep k Ns) ∷ ‵ Xc ∷ Γ) (runs C Λ E rest q) → Seq K 𝓛 (‵ (fsep c Cs) ∷ ‵ Zc ∷ ‵ (fsep k Hs) ∷ ‵ Xr ∷ Γ) (runs C Λ E code q)
+  store_kept s = move t (2 ∷ []) $ fsplit t $ move t (2 ∷ 3 ∷ 1 ∷ 4 ∷ []) $ store-none (move t (4 ∷ 2 ∷ []) $ fjoin t $ move t (1 ∷ 2 ∷ 0 ∷ []) $ s)
 
--- the field k of the local z, of the block c, is stored to the record behind the local f, of the block b, and its borrow is closed
-module _ {M : Type 1} {𝓤 : Ura M} {𝓛 : Logic 𝓤} {K : Type 0} {E : Env 𝓤 𝓛.H} {C : Calls 𝓤 𝓛.H} {Λ : Loops 𝓤 𝓛.H} {q : Post 𝓤 𝓛.H} {code rest : Code} {Cs Hs Ns : Fml} {ν : Sym} {τs : Tys} {c : ℕ} {vs : Vals} (t : K)
-    (go : (Γ : List (Item 𝓤)) → Seq K 𝓛 (‵ Cs ∷ ‵ (fat full_share (ty_struct ν τs) c zero (vstruct vs)) ∷ ‵ Ns ∷ Γ) (runs C Λ E rest q) → Seq K 𝓛 (‵ Cs ∷ ‵ (fat full_share (ty_struct ν τs) c zero (vstruct vs)) ∷ ‵ Hs ∷ Γ) (runs C Λ E code q))
+-- the field k of the local z, of the block c, is copied to the local e, of the block w, and stored to the record behind the local f, of the block b, and its borrow is closed
+module _ {M : Type 1} {𝓤 : Ura M} {𝓛 : Logic 𝓤} {K : Type 0} {E : Env 𝓤 𝓛.H} {C : Calls 𝓤 𝓛.H} {Λ : Loops 𝓤 𝓛.H} {q : Post 𝓤 𝓛.H} {code rest : Code} {Cs Hs Ns Xr Xc : Fml} {ν : Sym} {τs : Tys} {c : ℕ} {vs : Vals} (t : K)
+    (go : (Γ : List (Item 𝓤)) → Seq K 𝓛 (‵ Cs ∷ ‵ (fat full_share (ty_struct ν τs) c zero (vstruct vs)) ∷ ‵ Ns ∷ ‵ Xc ∷ Γ) (runs C Λ E rest q) → Seq K 𝓛 (‵ Cs ∷ ‵ (fat full_share (ty_struct ν τs) c zero (vstruct vs)) ∷ ‵ Hs ∷ ‵ Xr ∷ Γ) (runs C Λ E code q))
     (R : One) (x : MutBor R.R.Denot) (κ : Lft) (p : Share) (y : R.R.Denot) (is : IsOne R y) where
   open 𝓛 use {H}
 
-  store-mut-ref : {ℓ : Lifetime} {τ : Ty} {f b z k o : ℕ} {Γ : List (Item 𝓤)} → get_or E f (no_local 𝓤 H) ≡ (ty_ref ℓ mut τ, b) → get_or E z (no_local 𝓤 H) ≡ (ty_struct ν τs, c) → field_at zero τs k ≡ some (R.τ, o) → get_v vs k ≡ R.val y
-      → Seq K 𝓛 (‵ (fsep (cell (ty_ref ℓ mut τ) b (vptr x.ref_ptr.0 x.ref_ptr.1)) Cs) ∷ ‵ (fat full_share (ty_struct ν τs) c zero (vstruct vs)) ∷ ‵ (fsep (fsep (flft κ p) (fobs x.ghost_name (R.R.coded.code y))) Ns) ∷ Γ) (runs C Λ E rest q)
-      → Seq K 𝓛 (‵ (fsep (cell (ty_ref ℓ mut τ) b (vptr x.ref_ptr.0 x.ref_ptr.1)) Cs) ∷ ‵ (fat full_share (ty_struct ν τs) c zero (vstruct vs)) ∷ ‵ (fsep (kept mut R κ p x) Hs) ∷ Γ)
-      (runs C Λ E (seq (assign (place f (deref R.τ ∷ [])) (rv_opd (copy (place z (field k ∷ []))))) code) q)
-  store-mut-ref {k = k} at_f at-z at-k is_y s =
-      fsplit t $ fsplit t $ move t (4 ∷ []) $ fsplit t $ fsplit t $ move t (1 ∷ []) $ fsplit3 t $
-      -- [the open borrow; obs; auth; the record's cell; Hs; f; ..; Cs; z]
-      assigns t (of_opd t (load t (from_at t at-z (fld t at-k (stop t))) (read_as t is_y (look_in t 8 (sub t k at-k (whole t)))))) (from_at t at_f (hop t (look t 5 refl) (stop t))) (store_raw t 3 refl (fine-one R 𝓛 y _ is)) $
+  store-mut-ref : {ℓ : Lifetime} {τ : Ty} {f b z k e w o : ℕ} {Γ : List (Item 𝓤)} → get_or E f (no_local 𝓤 H) ≡ (ty_ref ℓ mut τ, b) → get_or E e (no_local 𝓤 H) ≡ (R.τ, w) → get_or E z (no_local 𝓤 H) ≡ (ty_struct ν τs, c) → field_at zero τs k ≡ some (R.τ, o) → get_v vs k ≡ R.val y
+      → Seq K 𝓛 (‵ (fsep (cell (ty_ref ℓ mut τ) b (vptr x.ref_ptr.0 x.ref_ptr.1)) Cs) ∷ ‵ (fat full_share (ty_struct ν τs) c zero (vstruct vs)) ∷ ‵ (fsep (fsep (flft κ p) (fsep (fobs x.ghost_name (R.R.coded.code y)) (fbor κ (Body (mem R.R) x.ref_ptr.0 x.ref_ptr.1 x.ghost_name)))) Ns) ∷ ‵ (fsep (cell R.τ w (R.val y)) Xc) ∷ Γ) (runs C Λ E rest q)
+      → Seq K 𝓛 (‵ (fsep (cell (ty_ref ℓ mut τ) b (vptr x.ref_ptr.0 x.ref_ptr.1)) Cs) ∷ ‵ (fat full_share (ty_struct ν τs) c zero (vstruct vs)) ∷ ‵ (fsep (kept mut R κ p x) Hs) ∷ ‵ (fsep (space R.τ w) Xr) ∷ Γ)
+      (runs C Λ E (seq (assign (place e []) (rv_opd (copy (place z (field k ∷ []))))) (seq (assign (place f (deref R.τ ∷ [])) (rv_opd (copy (place e [])))) code)) q)
+  store-mut-ref {k = k} at_f at_e at-z at-k is_y s =
+      move t (3 ∷ []) $ fsplit t $ fsplit t $
+      -- [room for the copy; ..; Xr; f with Cs; z; what is held]
+      assigns t (of_opd t (load t (from_at t at-z (fld t at-k (stop t))) (read_as t is_y (look_in t 4 (sub t k at-k (whole t)))))) (from_at t at_e (stop t)) (init t 0 refl (fine-one R 𝓛 y _ is)) $
+      move t (3 ∷ 4 ∷ 5 ∷ []) $ fsplit t $ fsplit t $ move t (4 ∷ []) $ fsplit t $ fsplit t $ move t (1 ∷ []) $ fsplit3 t $
+      -- [the open borrow; obs; auth; the record's cell; Hs; f; ..; Cs; z; the copy; ..; Xr]
+      assigns t (of_opd t (load t (from_at t at_e (stop t)) (look t 9 refl))) (from_at t at_f (hop t (look t 5 refl) (stop t))) (store_raw t 3 refl (fine-one R 𝓛 y _ is)) $
       owned t R.R (Is R.R) (R.makes M 𝓤 𝓛) y _ is $ move t (4 ∷ 0 ∷ []) $
       rewrite t 0 (λ (σs : List Ty). ‵ (cell_at full_share σs (R.val y ∷ []) x.ref_ptr.0 x.ref_ptr.1)) (sym R.one) refl $ closes t tt R.R y (R.val y ∷ []) x.ref_ptr.0 x.ref_ptr.1 $
-      -- [obs; the borrow; its token; Hs; f; ..; Cs; z]
-      move t (1 ∷ []) $ drop t $ move t (1 ∷ 0 ∷ []) $ fjoin t $ move t (2 ∷ 3 ∷ 4 ∷ []) $ fjoin t $ fjoin t $ move t (1 ∷ 2 ∷ []) $ fjoin t $ move t (1 ∷ 2 ∷ 0 ∷ []) $ store_kept t go s
+      -- [obs; the borrow; its token; Hs; f; ..; Cs; z; the copy; ..; Xr]
+      fjoin t $ move t (1 ∷ 0 ∷ []) $ fjoin t $ move t (2 ∷ 3 ∷ 4 ∷ []) $ fjoin t $ fjoin t $ move t (1 ∷ 2 ∷ []) $ fjoin t $ move t (1 ∷ 2 ∷ 0 ∷ 5 ∷ []) $ store_kept t go (move t (4 ∷ 5 ∷ 3 ∷ []) $ fjoin t $ fjoin t $ move t (1 ∷ 2 ∷ 3 ∷ 0 ∷ []) $ s)
 
 module _ {M : Type 1} {𝓤 : Ura M} {𝓛 : Logic 𝓤} {K : Type 0} {E : Env 𝓤 𝓛.H} where
   open 𝓛 use {H}
@@ -435,18 +496,18 @@ module _ {M : Type 1} {𝓤 : Ura M} {𝓛 : Logic 𝓤} {K : Type 0} {E : Env �
       lend-mut-slice t (lends-run t (suc j) Ps bs.1 ts.1.1 κs.1 qs.1 d.1 (λ i. f (suc i)) (λ i. g (suc (suc i))) E₁ E₂ (λ i. at_f (suc i)) (λ i. at_g (suc (suc i)))) T d.0 κs.0 (at_f 0) (at_g 0) (at_g 1) s
   lends-run t j (ref_to m R ∷ Ps) bs ts κs qs d f g E₁ E₂ at_f at_g Γ s = lend-ref t (lends-run t (suc j) Ps bs.1 ts.1 κs.1 qs.1 d.1 (λ i. f (suc i)) (λ i. g (suc i)) E₁ E₂ (λ i. at_f (suc i)) (λ i. at_g (suc i))) m R d.0 κs.0 qs.0 (at_f 0) (at_g 0) s
 
-  -- the statements after the call, from [the parameters' cells; what the step returned; what is held]. The records are the fields k, k + 1, .. of the local z
+  -- the statements after the call, from [the parameters' cells; what the step returned; what is held; room for the copies]. The records are the fields k, k + 1, .. of the local z
   pub stores_run : K → (j : ℕ) (Ps : List Param) (bs : Blocks (fn_tys j Ps)) (κs : Lfts (fn_lfts Ps)) (qs : Shares (fn_lfts Ps)) (d : Inputs Ps) (new : Tuple (records Ps)) → IsTuple (records Ps) new → (f : ℕ → ℕ) (E₁ : List (Ty × ℕ)) → Spots 𝓤 H E f (env (fn_tys j Ps) bs ++ E₁)
-      → (z c : ℕ) (ν : Sym) (τs : Tys) (vs : Vals) (k : ℕ → ℕ) (o : ℕ) → get_or E z (no_local 𝓤 H) ≡ (ty_struct ν τs, c) → ((i : ℕ) → field_at zero τs (k i) ≡ field_at o (tuple_tys (records Ps)) i) → ((i : ℕ) → get_v vs (k i) ≡ get_v (tuple_vals (records Ps) new) i)
+      → (z c : ℕ) (ν : Sym) (τs : Tys) (vs : Vals) (k : ℕ → ℕ) (o : ℕ) (es : Blocks (tys (records Ps))) (e : ℕ → ℕ) (E₂ : List (Ty × ℕ)) → Spots 𝓤 H E e (env (tys (records Ps)) es ++ E₂) → get_or E z (no_local 𝓤 H) ≡ (ty_struct ν τs, c) → ((i : ℕ) → field_at zero τs (k i) ≡ field_at o (tuple_tys (records Ps)) i) → ((i : ℕ) → get_v vs (k i) ≡ get_v (tuple_vals (records Ps) new) i)
       → {C : Calls 𝓤 H} {Λ : Loops 𝓤 H} {q : Post 𝓤 H} {rest : Code} (Γ : List (Item 𝓤))
-      → Seq K 𝓛 (‵ (cells (fn_tys j Ps) bs (fn_vals Ps d)) ∷ ‵ (fat full_share (ty_struct ν τs) c zero (vstruct vs)) ∷ ‵ (stored Ps κs qs d new) ∷ Γ) (runs C Λ E rest q)
-      → Seq K 𝓛 (‵ (cells (fn_tys j Ps) bs (fn_vals Ps d)) ∷ ‵ (fat full_share (ty_struct ν τs) c zero (vstruct vs)) ∷ ‵ (held Ps κs qs d) ∷ Γ) (runs C Λ E (stores f z k Ps rest) q)
-  stores_run t j [] bs κs qs d new are f E₁ at_f z c ν τs vs k o at-z at-k is-k Γ s = s
-  stores_run t j (val X ∷ Ps) bs κs qs d new are f E₁ at_f z c ν τs vs k o at-z at-k is-k Γ s = store-none t (stores_run t j Ps bs.1 κs qs d.1 new are (λ i. f (suc i)) E₁ (λ i. at_f (suc i)) z c ν τs vs k o at-z at-k is-k) s
-  stores_run t j (slice_of m T ∷ Ps) bs κs qs d new are f E₁ at_f z c ν τs vs k o at-z at-k is-k Γ s = store-none t (stores_run t (suc j) Ps bs.1 κs.1 qs.1 d.1 new are (λ i. f (suc i)) E₁ (λ i. at_f (suc i)) z c ν τs vs k o at-z at-k is-k) s
-  stores_run t j (ref_to imm R ∷ Ps) bs κs qs d new are f E₁ at_f z c ν τs vs k o at-z at-k is-k Γ s = store_kept t (stores_run t (suc j) Ps bs.1 κs.1 qs.1 d.1 new are (λ i. f (suc i)) E₁ (λ i. at_f (suc i)) z c ν τs vs k o at-z at-k is-k) s
-  stores_run t j (ref_to mut R ∷ Ps) bs κs qs d new are f E₁ at_f z c ν τs vs k o at-z at-k is-k Γ s =
-      store-mut-ref t (stores_run t (suc j) Ps bs.1 κs.1 qs.1 d.1 new.1 are.1 (λ i. f (suc i)) E₁ (λ i. at_f (suc i)) z c ν τs vs (λ i. k (suc i)) _ at-z (λ i. at-k (suc i)) (λ i. is-k (suc i))) R d.0 κs.0 qs.0 new.0 are.0 (at_f 0) at-z (at-k 0) (is-k 0) s
+      → Seq K 𝓛 (‵ (cells (fn_tys j Ps) bs (fn_vals Ps d)) ∷ ‵ (fat full_share (ty_struct ν τs) c zero (vstruct vs)) ∷ ‵ (stored Ps κs qs d new) ∷ ‵ (cells (tys (records Ps)) es (vals (records Ps) new)) ∷ Γ) (runs C Λ E rest q)
+      → Seq K 𝓛 (‵ (cells (fn_tys j Ps) bs (fn_vals Ps d)) ∷ ‵ (fat full_share (ty_struct ν τs) c zero (vstruct vs)) ∷ ‵ (held Ps κs qs d) ∷ ‵ (rooms (tys (records Ps)) es) ∷ Γ) (runs C Λ E (stores f z k e Ps rest) q)
+  stores_run t j [] bs κs qs d new are f E₁ at_f z c ν τs vs k o es e E₂ at_e at-z at-k is-k Γ s = s
+  stores_run t j (val X ∷ Ps) bs κs qs d new are f E₁ at_f z c ν τs vs k o es e E₂ at_e at-z at-k is-k Γ s = store-none t (stores_run t j Ps bs.1 κs qs d.1 new are (λ i. f (suc i)) E₁ (λ i. at_f (suc i)) z c ν τs vs k o es e E₂ at_e at-z at-k is-k) s
+  stores_run t j (slice_of m T ∷ Ps) bs κs qs d new are f E₁ at_f z c ν τs vs k o es e E₂ at_e at-z at-k is-k Γ s = store-none t (stores_run t (suc j) Ps bs.1 κs.1 qs.1 d.1 new are (λ i. f (suc i)) E₁ (λ i. at_f (suc i)) z c ν τs vs k o es e E₂ at_e at-z at-k is-k) s
+  stores_run t j (ref_to imm R ∷ Ps) bs κs qs d new are f E₁ at_f z c ν τs vs k o es e E₂ at_e at-z at-k is-k Γ s = store_kept t (stores_run t (suc j) Ps bs.1 κs.1 qs.1 d.1 new are (λ i. f (suc i)) E₁ (λ i. at_f (suc i)) z c ν τs vs k o es e E₂ at_e at-z at-k is-k) s
+  stores_run t j (ref_to mut R ∷ Ps) bs κs qs d new are f E₁ at_f z c ν τs vs k o es e E₂ at_e at-z at-k is-k Γ s =
+      store-mut-ref t (stores_run t (suc j) Ps bs.1 κs.1 qs.1 d.1 new.1 are.1 (λ i. f (suc i)) E₁ (λ i. at_f (suc i)) z c ν τs vs (λ i. k (suc i)) _ es.1 (λ i. e (suc i)) E₂ (λ i. at_e (suc i)) at-z (λ i. at-k (suc i)) (λ i. is-k (suc i))) R d.0 κs.0 qs.0 new.0 are.0 (at_f 0) (at_e 0) at-z (at-k 0) (is-k 0) s
 
 -- ---- at entry: the machine values are of the locals' types
 pub fn-typed : {M : Type 1} {𝓤 : Ura M} (𝓛 : Logic 𝓤) (n : ℕ) (κs : Lfts n) (j : ℕ) (Ps : List Param) (at : Lfts n → Lfts (fn_lfts Ps)) (a : Denots (fn_types n κs j Ps at))
@@ -467,9 +528,9 @@ module _ {M : Type 1} {𝓤 : Ura M} {𝓛 : Logic 𝓤} {K : Type 0} {G : Goal 
   left-slice s = move t (1 ∷ []) $ fsplit t $ move t (2 ∷ 1 ∷ 3 ∷ []) $ left-val (move t (2 ∷ 0 ∷ []) $ fjoin t $ s)
 
   -- what the step says of the record by value is let go
-  left-mut-ref : {l k : Fml} {γ : GName} {x : Gv} {Γ : List (Item 𝓤)} → Seq K 𝓛 (‵ (fsep k Fs) ∷ ‵ (fsep (fres γ x) Es) ∷ Γ) G → Seq K 𝓛 (‵ (fsep l Ls) ∷ ‵ Ks ∷ ‵ (fsep (fsep k (fobs γ x)) Ns) ∷ Γ) G
+  left-mut-ref : {l k B : Fml} {γ : GName} {x : Gv} {Γ : List (Item 𝓤)} → Seq K 𝓛 (‵ (fsep k Fs) ∷ ‵ (fsep (fsep (fres γ x) B) Es) ∷ Γ) G → Seq K 𝓛 (‵ (fsep l Ls) ∷ ‵ Ks ∷ ‵ (fsep (fsep k (fsep (fobs γ x) B)) Ns) ∷ Γ) G
   left-mut-ref {γ = γ} {x = x} s =
-      fsplit t $ drop t $ move t (2 ∷ []) $ fsplit t $ fsplit t $ move t (1 ∷ []) $ use1 𝓛 (‵ (fres γ x)) (𝓛.names.obs-res γ x) $ move t (0 ∷ 3 ∷ []) $ fjoin t $ move t (1 ∷ 3 ∷ []) $ fjoin t $ move t (1 ∷ 0 ∷ []) $ left-slice s
+      fsplit t $ drop t $ move t (2 ∷ []) $ fsplit t $ fsplit t $ move t (1 ∷ []) $ fsplit t $ use1 𝓛 (‵ (fres γ x)) (𝓛.names.obs-res γ x) $ fjoin t $ move t (0 ∷ 3 ∷ []) $ fjoin t $ move t (1 ∷ 3 ∷ []) $ fjoin t $ move t (1 ∷ 0 ∷ []) $ left-slice s
 
   left-ref : {l k : Fml} {Γ : List (Item 𝓤)} → Seq K 𝓛 (‵ (fsep k Fs) ∷ ‵ (fsep ftrue Es) ∷ Γ) G → Seq K 𝓛 (‵ (fsep l Ls) ∷ ‵ Ks ∷ ‵ (fsep k Ns) ∷ Γ) G
   left-ref s = fsplit t $ drop t $ nothing t $ fjoin t $ move t (2 ∷ []) $ fsplit t $ move t (0 ∷ 3 ∷ []) $ fjoin t $ move t (2 ∷ 0 ∷ 1 ∷ []) $ left-slice s
@@ -485,13 +546,13 @@ module _ (n : ℕ) (κs : Lfts n) (n₁ : ℕ) (κs₁ : Lfts n₁) where
   lastly j i (ref_to imm R ∷ Ps) at at₁ a new ws = (tt, lastly (suc j) i Ps (λ ls. (at ls).1) at₁ a.1 new ws.1)
   lastly j i (ref_to mut R ∷ Ps) at at₁ a new ws = (new.0, lastly (suc j) i Ps (λ ls. (at ls).1) at₁ a.1 new.1 ws.1)
 
-  pub left-run : {M : Type 1} {𝓤 : Ura M} {𝓛 : Logic 𝓤} {K : Type 0} {G : Goal 𝓤 𝓛.H} → K → (j i : ℕ) (Ps : List Param) (at : Lfts n → Lfts (fn_lfts Ps)) (at₁ : Lfts n₁ → Lfts (step_lfts Ps)) (ls : Lfts (fn_lfts Ps)) (qs : Shares (fn_lfts Ps))
+  pub left-run : {M : Type 1} {𝓤 : Ura M} {𝓛 : Logic 𝓤} {K : Type 0} {G : Goal 𝓤 𝓛.H} → K → (j i : ℕ) (Ps : List Param) (at : Lfts n → Lfts (fn_lfts Ps)) (at₁ : Lfts n₁ → Lfts (step_lfts Ps)) → step_lft Ps (at κs) ≡ at₁ κs₁ → (qs : Shares (fn_lfts Ps))
       (a : Denots (fn_types n κs j Ps at)) (new : Tuple (records Ps)) (ws : Fins {n = n₁} κs₁ (step_slots n₁ i Ps at₁) (all yes (step_slots n₁ i Ps at₁)) (step_inputs n₁ κs₁ i Ps at₁ (inputs n κs j Ps at a))) (Γ : List (Item 𝓤))
-      → Seq K 𝓛 (‵ (tokens (fn_lfts Ps) ls qs) ∷ ‵ (lasts_of {n = n} κs (fn_slots n j Ps at) (all yes (fn_slots n j Ps at)) a (lastly j i Ps at at₁ a new ws)) ∷ Γ) G
-      → Seq K 𝓛 (‵ (lasts_of {n = n₁} κs₁ (step_slots n₁ i Ps at₁) (all yes (step_slots n₁ i Ps at₁)) (step_inputs n₁ κs₁ i Ps at₁ (inputs n κs j Ps at a)) ws) ∷ ‵ (tokens (step_lfts Ps) (step_lft Ps ls) (step_share Ps qs)) ∷ ‵ (stored Ps ls qs (inputs n κs j Ps at a) new) ∷ Γ) G
-  left-run t j i [] at at₁ ls qs a new ws Γ s = drop t $ s
-  left-run t j i (val X ∷ Ps) at at₁ ls qs a new ws Γ s = left-val t (left-run t j i Ps at at₁ ls qs a.1 new ws.1) s
-  left-run t j i (slice_of imm T ∷ Ps) at at₁ ls qs a new ws Γ s = left-slice t (left-run t (suc j) (suc i) Ps (λ ls. (at ls).1) (λ ls. (at₁ ls).1) ls.1 qs.1 a.1 new ws.1) s
-  left-run t j i (slice_of mut T ∷ Ps) at at₁ ls qs a new ws Γ s = left-slice t (left-run t (suc j) (suc i) Ps (λ ls. (at ls).1) (λ ls. (at₁ ls).1) ls.1 qs.1 a.1 new ws.1) s
-  left-run t j i (ref_to imm R ∷ Ps) at at₁ ls qs a new ws Γ s = left-ref t (left-run t (suc j) i Ps (λ ls. (at ls).1) at₁ ls.1 qs.1 a.1 new ws.1) s
-  left-run t j i (ref_to mut R ∷ Ps) at at₁ ls qs a new ws Γ s = left-mut-ref t (left-run t (suc j) i Ps (λ ls. (at ls).1) at₁ ls.1 qs.1 a.1 new.1 ws.1) s
+      → Seq K 𝓛 (‵ (tokens (fn_lfts Ps) (at κs) qs) ∷ ‵ (lasts_of {n = n} κs (fn_slots n j Ps at) (all yes (fn_slots n j Ps at)) a (lastly j i Ps at at₁ a new ws)) ∷ Γ) G
+      → Seq K 𝓛 (‵ (lasts_of {n = n₁} κs₁ (step_slots n₁ i Ps at₁) (all yes (step_slots n₁ i Ps at₁)) (step_inputs n₁ κs₁ i Ps at₁ (inputs n κs j Ps at a)) ws) ∷ ‵ (tokens (step_lfts Ps) (step_lft Ps (at κs)) (step_share Ps qs)) ∷ ‵ (stored Ps (at κs) qs (inputs n κs j Ps at a) new) ∷ Γ) G
+  left-run t j i [] at at₁ e qs a new ws Γ s = drop t $ s
+  left-run t j i (val X ∷ Ps) at at₁ e qs a new ws Γ s = left-val t (left-run t j i Ps at at₁ e qs a.1 new ws.1) s
+  left-run t j i (slice_of imm T ∷ Ps) at at₁ e qs a new ws Γ s = left-slice t (left-run t (suc j) (suc i) Ps (λ ls. (at ls).1) (λ ls. (at₁ ls).1) (ap (λ (κs' : Lfts (step_lfts (slice_of imm T ∷ Ps))). κs'.1) e) qs.1 a.1 new ws.1) s
+  left-run t j i (slice_of mut T ∷ Ps) at at₁ e qs a new ws Γ s = rewrite t 0 (λ (κ : Lft). ‵ (fsep (left ((MutSlice erased κ T.R).exit yes) a.0 ws.0) (lasts_of {n = n₁} κs₁ (step_slots n₁ (suc i) Ps (λ ls. (at₁ ls).1)) (all yes (step_slots n₁ (suc i) Ps (λ ls. (at₁ ls).1))) (step_inputs n₁ κs₁ (suc i) Ps (λ ls. (at₁ ls).1) (inputs n κs (suc j) Ps (λ ls. (at ls).1) a.1)) ws.1))) (sym (ap (λ (κs' : Lfts (step_lfts (slice_of mut T ∷ Ps))). κs'.0) e)) refl $ left-slice t (left-run t (suc j) (suc i) Ps (λ ls. (at ls).1) (λ ls. (at₁ ls).1) (ap (λ (κs' : Lfts (step_lfts (slice_of imm T ∷ Ps))). κs'.1) e) qs.1 a.1 new ws.1) s
+  left-run t j i (ref_to imm R ∷ Ps) at at₁ e qs a new ws Γ s = left-ref t (left-run t (suc j) i Ps (λ ls. (at ls).1) at₁ e qs.1 a.1 new ws.1) s
+  left-run t j i (ref_to mut R ∷ Ps) at at₁ e qs a new ws Γ s = left-mut-ref t (left-run t (suc j) i Ps (λ ls. (at ls).1) at₁ e qs.1 a.1 new.1 ws.1) s

@@ -26,6 +26,7 @@ use denote.Struct.Laws as SL
 use denote.Enum.Enum.{Few, Plainss}
 use denote.Enum.Declared as ED
 use denote.Enum.Laws as EL
+use denote.Copied.{Copied, uint_Copied, bool_Copied}
 
 -- ---- plain data: R its type, τ its one MIR type, val its machine value
 pub record One : Type 2 where
@@ -36,9 +37,10 @@ pub record One : Type 2 where
   pub tells : Tells R (Is R) (λ x. val x ∷ [])
   pub makes : (M : Type 1) (𝓤 : Ura M) (𝓛 : Logic 𝓤) → Makes 𝓛 R (Is R)
   pub lawful : (M : Type 1) (𝓤 : Ura M) (𝓛 : Logic 𝓤) → Lawful 𝓛 R
+  pub copied : (M : Type 1) (𝓤 : Ura M) (𝓛 : Logic 𝓤) → Copied 𝓛 R
 
 abbrev of_uint : Width → One
-of_uint w = record { R = UInt w; τ = ty_int w; one = refl; val = vint w; tells = uint_Tells w; makes = λ M 𝓤 𝓛. uint_Makes 𝓛 w; lawful = λ M 𝓤 𝓛. uint_Lawful 𝓛 w }
+of_uint w = record { R = UInt w; τ = ty_int w; one = refl; val = vint w; tells = uint_Tells w; makes = λ M 𝓤 𝓛. uint_Makes 𝓛 w; lawful = λ M 𝓤 𝓛. uint_Lawful 𝓛 w; copied = λ M 𝓤 𝓛. uint_Copied 𝓛 w }
 
 abbrev pub u8 : One
 u8 = of_uint w8
@@ -50,15 +52,15 @@ abbrev pub u64 : One
 u64 = of_uint w64
 
 abbrev pub bool : One
-bool = record { R = Boolean; τ = ty_bool; one = refl; val = vbool; tells = bool_Tells; makes = λ M 𝓤 𝓛. bool_Makes 𝓛; lawful = λ M 𝓤 𝓛. bool_Lawful 𝓛 }
+bool = record { R = Boolean; τ = ty_bool; one = refl; val = vbool; tells = bool_Tells; makes = λ M 𝓤 𝓛. bool_Makes 𝓛; lawful = λ M 𝓤 𝓛. bool_Lawful 𝓛; copied = λ M 𝓤 𝓛. bool_Copied 𝓛 }
 
--- a declared struct S: `of_struct S.the_type S.Laws.the_laws S.Laws.the_plain`
-abbrev pub of_struct : (T : SD.Declared) → SL.Laws T → Plains (SD.fields T) → One
-of_struct T laws plain = record { R = SD.row T; τ = lone (SD.row T).mir; one = refl; val = SL.val T laws; tells = SL.tells T laws; makes = λ M 𝓤 𝓛. SL.makes T plain 𝓛; lawful = λ M 𝓤 𝓛. SL.lawful T laws 𝓛 }
+-- a declared struct S: `of_struct S.the_type S.Laws.the_laws S.Laws.the_plain S.Laws.the_copy`
+abbrev pub of_struct : (T : SD.Declared) → SL.Laws T → Plains (SD.fields T) → SL.Copyables T.parts → One
+of_struct T laws plain copies = record { R = SD.row T; τ = lone (SD.row T).mir; one = refl; val = SL.val T laws; tells = SL.tells T laws; makes = λ M 𝓤 𝓛. SL.makes T plain 𝓛; lawful = λ M 𝓤 𝓛. SL.lawful T laws 𝓛; copied = λ M 𝓤 𝓛. SL.copied T copies 𝓛 }
 
--- a declared enum E: `of_enum E.the_type E.Laws.the_laws tt E.Laws.the_plain`
-abbrev pub of_enum : (T : ED.Declared) → EL.Laws T → Few (ED.shape T) → Plainss (ED.variants T) → One
-of_enum T laws few plain = record { R = ED.row T; τ = lone (ED.row T).mir; one = refl; val = EL.val T laws; tells = EL.tells T laws; makes = λ M 𝓤 𝓛. EL.makes T plain 𝓛; lawful = λ M 𝓤 𝓛. EL.lawful T laws 𝓛 few }
+-- a declared enum E: `of_enum E.the_type E.Laws.the_laws tt E.Laws.the_plain E.Laws.the_copy`
+abbrev pub of_enum : (T : ED.Declared) → EL.Laws T → Few (ED.shape T) → Plainss (ED.variants T) → EL.Copyabless T.parts → One
+of_enum T laws few plain copies = record { R = ED.row T; τ = lone (ED.row T).mir; one = refl; val = EL.val T laws; tells = EL.tells T laws; makes = λ M 𝓤 𝓛. EL.makes T plain 𝓛; lawful = λ M 𝓤 𝓛. EL.lawful T laws 𝓛 few; copied = λ M 𝓤 𝓛. EL.copied T copies 𝓛 }
 
 -- the machine value v is of the MIR type τ
 abbrev pub Fine : Ty → Val → Type 0
