@@ -2,7 +2,7 @@
 use Prim.Native.Nat.{ℕ, ◌%◌}
 use mathlib.Core.Path.{◌≡◌, refl, sym, ap, ◌∙◌}
 use mathlib.Core.Bool.{Bool, true, false}
-use mathlib.Core.List.{List, [], ◌∷◌}
+use mathlib.Core.List.{List, []}
 use lib.ListN.{length}
 use borrow.Author.Tests.{eq-eqb, ne_eqb}
 use Rattle.error.specs.Told.{Told, tell, nothing, refused}
@@ -53,7 +53,7 @@ use Rattle.waiting.specs.declared.Pending.{Pending}
 use Rattle.waiting.specs.declared.Completed.TheVariants as CompletedIs
 use Rattle.waiting.specs.Answers.{completed_told}
 use Rattle.waiting.specs.Rules.{after_abort, judged, completes}
-use Rattle.waiting.specs.Calls.{PendingAfter, pending_after, pending, beside, begins, started_to, start_pending, turned_to, turn_pending, PendingRun, pending_run, ran_to, run_pending, dropped_to, drop_pending}
+use Rattle.waiting.specs.Calls.{pending_after, pending, beside, begins, started_to, start_pending, turned_to, turn_pending, PendingRun, pending_run, ran_to, run_pending, dropped_to, drop_pending}
 
 -- ---- completion, by the verdict
 
