@@ -5,7 +5,6 @@ use mathlib.Core.List.{List}
 use Prim.Native.Nat.{ℕ}
 use lib.Dec.{eqb}
 use lib.ListN.{length}
-use Rattle.std.proofs.Common.{if◌then◌else◌}
 use Rattle.error.specs.Told.{refused}
 use Rattle.error.specs.declared.Refusal.{Refusal}
 use Rattle.error.specs.declared.Refusal.TheVariants.{Time, Limit, Storage, Unsound, Full, Turn, Damaged, Version, Name}

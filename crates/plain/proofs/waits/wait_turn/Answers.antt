@@ -1,0 +1,7 @@
+-- `plain::waits::wait_turn` meets its contract: the call by value, packed. Assumes nothing.
+use Rattle.plain.proofs.Cross.{cross-turn}
+use Rattle.plain.proofs.waits.wait_turn.Goals as goal
+
+pub returns : goal.returns
+returns c =
+    cross-turn _ _ _ _ _ _ c.pack_awaiting.ensures _ (rw c.pending_by-handed.ensures at c.turn.ensures)
