@@ -1,26 +1,25 @@
 -- Laws of a save's body: it is read again, and what is read was written. Assumes nothing.
 use mathlib.Core.Path.{◌≡◌, refl, sym, ap, subst, ◌∙◌}
-use mathlib.Core.Bool.{Bool, true, false, ◌&&◌}
+use mathlib.Core.Bool.{true, false}
 use mathlib.Core.List.{List, [], ◌∷◌, ◌++◌, append_assoc, append-nil}
-use Prim.Native.Nat.{ℕ, zero, suc, ◌+◌, ◌-◌, ◌*◌, ◌^◌, ◌<◌, ◌≤◌}
+use Prim.Native.Nat.{ℕ, zero, suc, ◌+◌, ◌-◌, ◌*◌, ◌<◌, ◌≤◌}
 use native.Mathlib.Nat.{sub-zero}
 use native.Mathlib.Omega.{arith}
-use lib.Dec.{eqb, leb, ltb}
+use lib.Dec.{eqb}
 use lib.ListN.{length, take, drop, replicate, length-append, length-drop, length-replicate, take-append-drop}
-use lib.Seq.{take_at, drop_at, take_all, drop-drop, length-take-le, drop-append-add}
+use lib.Seq.{take_at, drop_at, take_all, drop-drop, length-take-le}
 use borrow.Author.Tests.{eqb-true, eq-eqb, ne_eqb, le-leb, lt-leb}
-use Rattle.std.proofs.Common.{if◌then◌else◌}
 use Rattle.error.proofs.Choice.{and_split}
 use Rattle.history.specs.declared.Items.{Items}
 use Rattle.history.specs.declared.Items.TheVariants as ItemsIs
 use Rattle.history.specs.Items.{all_below, are_items, fits, padded, sound_list, view}
 use Rattle.history.proofs.Sound as List·
 use Rattle.breaker.specs.declared.Breaker.{Breaker}
-use Rattle.breaker.specs.Record.{sound_record, sound_config, sound_shared, items_of, sound}
+use Rattle.breaker.specs.Record.{sound_record, sound_config, sound_shared, items_of}
 use Rattle.breaker.proofs.Record.{sound→, →sound}
 use Rattle.le_bytes.specs.Bytes.{number, encoded, decoded, room, written, put_at, put_items, items_at, Fit, Bytes}
 use Rattle.le_bytes.proofs.Written.{put_in, written_from, length-written, items-in}
-use Rattle.le_bytes.proofs.Little.{bytes_take, bytes_drop}
+use Rattle.le_bytes.proofs.Little.{bytes_drop}
 use Rattle.le_bytes.proofs.Widths.{length-encoded, length-encoded-any, length-encoded-same, put-items-in, length-decoded, fit-decoded, decoded-encoded, encoded-decoded, room-same}
 use Rattle.body.specs.Save.{Save, Good, is_name, widths, fields_of, width_of, item_width, body_of, size_of, save_of, put_save}
 use Rattle.body.specs.Record.{breaker_of}

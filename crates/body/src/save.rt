@@ -7,8 +7,8 @@ ghost use Rattle.body.specs.Save.{BodyRead, body_of, Good, is_name, put_save, Sa
 use crate::record::{put_record, record_at};
 use crate::{NAME, RECORD_END, ReadAs};
 use breaker::{Breaker, items_of, sound_record};
-use le_bytes::{copy, items_at, put_items};
 use history::{Items, MOST_ITEMS, PLACES, may_have};
+use le_bytes::{copy, items_at, put_items};
 
 // The bytes of an item: a time or an outcome.
 const TIME: usize = 8;

@@ -1,8 +1,8 @@
 -- What is found in a buffer, from its passes. Assumes nothing.
 use mathlib.Core.Path.{◌≡◌, refl, sym, ap, subst, ◌∙◌}
-use mathlib.Core.Bool.{Bool, true, false, ◌||◌, false≢true}
+use mathlib.Core.Bool.{Bool, true, false, ◌||◌}
 use mathlib.Core.List.{List, [], ◌∷◌, ◌++◌}
-use Prim.Native.Nat.{ℕ, ◌+◌, ◌/◌, ◌<◌, ◌≤◌}
+use Prim.Native.Nat.{ℕ, ◌/◌, ◌<◌}
 use native.Mathlib.Omega.{arith}
 use lib.Dec.{eqb}
 use lib.ListN.{length, take, length-append}
@@ -13,7 +13,7 @@ use Rattle.blocks.specs.Run.{every}
 use Rattle.body.specs.Save.{Save, Good, is_name, body_of}
 use Rattle.blocks.specs.Run.{run_of}
 use Rattle.saves.specs.declared.Looked.TheVariants as LookedIs
-use Rattle.saves.specs.Buffer.{runs_of, same_bytes, is_there, AllGood, Reads, framed, wrong, saves, all}
+use Rattle.saves.specs.Buffer.{runs_of, same_bytes, is_there, AllGood, framed, all}
 use Rattle.saves.specs.Look.{is_listed, numbers_of, Placed, absent, present, LookedAs}
 use Rattle.saves.proofs.Walks.{runs_append, run-some}
 

@@ -2,12 +2,12 @@
 use mathlib.Core.Path.{◌≡◌, refl, sym, ap, ◌∙◌}
 use mathlib.Core.Bool.{Bool, true, false, false≢true}
 use mathlib.Core.List.{List, [], ◌∷◌, ◌++◌, append-nil}
-use Prim.Native.Nat.{ℕ, ◌≤◌}
+use Prim.Native.Nat.{ℕ}
 use native.Mathlib.Omega.{arith}
 use lib.ListN.{length, length-append}
 use Rattle.blocks.specs.Run.{run_of}
 use Rattle.body.specs.Save.{Save, body_of}
-use Rattle.saves.specs.Buffer.{runs_of, AllGood, Reading, wrong, saves, Reads, sizes, sums, versions, rest, all}
+use Rattle.saves.specs.Buffer.{runs_of, AllGood, Reading, saves, Reads, sizes, sums, versions, rest, all}
 use Rattle.saves.proofs.Walks.{run-some, runs-left}
 use Rattle.saves.proofs.Walking.{all-behind}
 

@@ -1,13 +1,12 @@
 -- What stands at the front of bytes: a run that is found there is a save's exactly where its body is. Assumes nothing.
-use mathlib.Core.Path.{◌≡◌, refl, sym, ap, ◌∙◌}
-use mathlib.Core.Bool.{true}
-use mathlib.Core.List.{List, [], ◌∷◌, ◌++◌}
-use Prim.Native.Nat.{ℕ, ◌+◌, ◌-◌, ◌*◌, ◌/◌, ◌<◌, ◌≤◌}
+use mathlib.Core.Path.{◌≡◌, sym, ap, ◌∙◌}
+use mathlib.Core.List.{List, ◌++◌}
+use Prim.Native.Nat.{ℕ, ◌+◌, ◌*◌, ◌≤◌}
 use native.Mathlib.Omega.{arith}
-use lib.ListN.{length, take, drop, replicate, length-append, length-drop}
-use lib.Seq.{take_at, take_all}
+use lib.ListN.{length, take, drop, replicate, length-append}
+use lib.Seq.{take_at}
 use Rattle.breaker.specs.declared.Breaker.{Breaker}
-use Rattle.le_bytes.specs.Bytes.{number, number_at, encoded, written, Bytes}
+use Rattle.le_bytes.specs.Bytes.{number, number_at, encoded}
 use Rattle.le_bytes.proofs.Little.{bytes-append}
 use Rattle.le_bytes.proofs.Written.{number_in, width-most}
 use Rattle.le_bytes.proofs.Widths.{bytes-encoded}
@@ -16,7 +15,7 @@ use Rattle.blocks.specs.Run.{count_of, run_of, Body, body_in, put_body, Finds}
 use Rattle.blocks.proofs.Joins.{length_run, body-in}
 use Rattle.blocks.proofs.Unique.{run-one}
 use Rattle.body.specs.declared.ReadAs.TheVariants as ReadIs
-use Rattle.body.specs.Save.{Save, Good, widths, fields_of, width_of, body_of, size_of, BodyRead}
+use Rattle.body.specs.Save.{Save, Good, widths, fields_of, width_of, body_of, BodyRead}
 use Rattle.body.proofs.Records.{room-widths}
 use Rattle.body.proofs.Saves.{name-ascii, body-name, body-length, body-least, good-most, width-le}
 use Rattle.saves.specs.declared.Stands.TheVariants as StandsIs

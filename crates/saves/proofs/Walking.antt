@@ -1,13 +1,13 @@
 -- A turn of the walk over saves. Assumes nothing.
 use mathlib.Core.Path.{◌≡◌, refl, sym, ap, subst, ◌∙◌}
-use mathlib.Core.Bool.{Bool, true, false, ◌&&◌, ◌||◌, false≢true}
+use mathlib.Core.Bool.{Bool, true, false, ◌||◌}
 use mathlib.Core.List.{List, [], ◌∷◌, ◌++◌, append_assoc, append-nil}
-use Prim.Native.Nat.{ℕ, zero, suc, ◌+◌, ◌-◌, ◌*◌, ◌/◌, ◌%◌, ◌<◌, ◌≤◌}
+use Prim.Native.Nat.{ℕ, zero, suc, ◌+◌, ◌*◌, ◌/◌, ◌%◌, ◌<◌, ◌≤◌}
 use native.Mathlib.Numerals.{add-one}
 use native.Mathlib.Omega.{arith}
 use lib.Dec.{eqb}
 use lib.ListN.{length, take, drop, set, length-append, length-drop, drop_of_length-le}
-use lib.Seq.{drop_at, drop-drop, take-suc-set}
+use lib.Seq.{drop-drop, take-suc-set}
 use borrow.Author.Tests.{eqb-true}
 use Rattle.std.proofs.Common.{if◌then◌else◌}
 use Rattle.error.proofs.Choice.{and_split}
@@ -16,7 +16,7 @@ use Rattle.blocks.specs.Block.{summed}
 use Rattle.blocks.specs.Run.{count_of, run_of, every}
 use Rattle.blocks.proofs.Joins.{length_run}
 use Rattle.blocks.proofs.Unique.{run-one}
-use Rattle.body.specs.Save.{Save, Good, body_of}
+use Rattle.body.specs.Save.{Save, body_of}
 use Rattle.body.proofs.Saves.{body-least}
 use Rattle.saves.specs.declared.Stands.TheVariants as StandsIs
 use Rattle.saves.specs.Buffer.{runs_of, AllGood}

@@ -1,22 +1,21 @@
 -- Saves one after another: known by their bytes, and by the numbers of their names. Assumes nothing.
 use mathlib.Core.Path.{◌≡◌, refl, sym, ap, ◌∙◌}
-use mathlib.Core.Bool.{Bool, true, false, ◌&&◌, ◌||◌, false≢true}
+use mathlib.Core.Bool.{Bool, true, false, ◌||◌, false≢true}
 use mathlib.Core.List.{List, [], ◌∷◌, ◌++◌, append_assoc, append-nil}
-use Prim.Native.Nat.{ℕ, zero, suc, ◌+◌, ◌-◌, ◌*◌, ◌/◌, ◌<◌, ◌≤◌}
+use Prim.Native.Nat.{ℕ, ◌≤◌}
 use native.Mathlib.Omega.{arith}
 use lib.Dec.{eqb}
-use lib.ListN.{length, take, drop, replicate, length-append, drop_of_length-le}
-use borrow.Author.Tests.{eqb-true, eq-eqb}
+use lib.ListN.{length, drop, replicate, length-append}
 use Rattle.breaker.specs.declared.Breaker.{Breaker}
 use Rattle.le_bytes.specs.Bytes.{number, decoded}
-use Rattle.blocks.specs.Run.{count_of, run_of}
+use Rattle.blocks.specs.Run.{run_of}
 use Rattle.blocks.proofs.Joins.{length_run}
 use Rattle.blocks.proofs.Unique.{run-one}
 use Rattle.body.specs.Save.{Save, Good, body_of, width_of}
 use Rattle.body.proofs.Saves.{save_in, record_in, list_in, body-name, body-record, body-items, body-least}
 use Rattle.saves.specs.Buffer.{runs_of, same_bytes, is_there, AllGood}
 use Rattle.saves.specs.Look.{is_listed, numbers_of}
-use Rattle.saves.proofs.Names.{same-is, same_self, names_same}
+use Rattle.saves.proofs.Names.{names_same}
 use Rattle.saves.proofs.Stand.{good-body}
 
 -- ---- a save is known by its body

@@ -10,8 +10,8 @@ ghost use Rattle.saves.specs.Look.{LookedAs, SizeFits, StandsAs, WalkedAs, is_li
 use crate::{LARGEST, Looked, ROOM, Stands, Walked};
 use blocks::{BLOCK, Found, all_summed, all_versioned, count_of, join, run_at};
 use body::{is_name, read};
-use le_bytes::number_at;
 use error::Refusal;
+use le_bytes::number_at;
 
 fn is_framed(size: usize, used: usize) -> bool
     ensures { result ≡ framed size used }
