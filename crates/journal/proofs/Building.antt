@@ -1,4 +1,5 @@
 -- Laws of the breaker that a header makes. Assumes nothing.
+use Rattle.std.specs.Prelude.{if◌then◌else◌}
 use Prim.Native.Nat.{ℕ, ◌%◌, ◌<◌, max}
 use native.Mathlib.Omega.{arith}
 use mathlib.Core.Path.{◌≡◌, refl, sym, ap, ap₂, ◌∙◌}
@@ -9,7 +10,6 @@ use lib.Ieee.{Float, binary64, of_bits, is_nan, lt}
 use lib.Ieee.Bits.{nan_bits_is, nan_bits_above, of_bits-fits}
 use lib.Dec.{ltb}
 use borrow.Author.Tests.{eq-eqb, lt-ltb}
-use Rattle.std.proofs.Common.{if◌then◌else◌}
 use Rattle.error.specs.declared.Refusal.TheVariants.{Limit}
 use Rattle.error.specs.Told.{Told, tell, refused}
 use Rattle.error.specs.declared.Refusal.{Refusal}
