@@ -6,9 +6,11 @@ top=$PWD
 work=target/leaves
 rm -rf "$work" && mkdir -p "$work/crates/leaves/src"
 cp -r crates/error crates/history "$work/crates/"
-rm -rf "$work"/crates/*/must-fail
-printf 'error:\nhistory: error\nleaves: error history\n' > "$work/crates.txt"
+rm -rf "$work"/crates/*/must-fail "$work"/crates/*/out
+printf 'error:\nhistory: error\nleaves staticlib: error history\n' > "$work/crates.txt"
 cat > "$work/crates/leaves/src/lib.rt" <<'RT'
+#![tactic(auto)]
+
 use history::Changed;
 use history::Items;
 fn number(c: Changed) -> u32 {
@@ -17,29 +19,29 @@ fn number(c: Changed) -> u32 {
         Changed::Refused(r) => 10000 + error::number(r) % 16,
     }
 }
-#[no_mangle]
+#[unsafe(no_mangle)]
 pub extern "C" fn leaf_sound(list: &[u64], len: u32, window: u32) -> bool {
     history::sound_list(list, len, Items::Outcomes(window))
 }
-#[no_mangle]
+#[unsafe(no_mangle)]
 pub extern "C" fn leaf_failures(list: &[u64], first: u32, len: u32) -> u64 {
     history::count_failures(list, first, len)
 }
-#[no_mangle]
+#[unsafe(no_mangle)]
 pub extern "C" fn leaf_recent(list: &[u64], first: u32, len: u32, cutoff: u64) -> u32 {
     history::count_recent(list, first, len, cutoff)
 }
-#[no_mangle]
+#[unsafe(no_mangle)]
 pub extern "C" fn leaf_expired(list: &[u64], len: u32, cutoff: u64) -> u32 {
     history::count_expired(list, len, cutoff)
 }
-#[no_mangle]
+#[unsafe(no_mangle)]
 pub extern "C" fn leaf_turn_over(list: &mut [u64], len: u32, gone: u32, item: u64) -> u32 {
     number(history::turn_over(list, len, gone, item))
 }
 RT
-(cd "$work" && rt staticlib leaves > build.out 2>&1) || { tail -5 "$work/build.out"; exit 1; }
-lib=$work/target/staticlib/libleaves.a
+(cd "$work/crates/leaves" && rt lib > ../../build.out 2>&1) || { tail -5 "$work/build.out"; exit 1; }
+lib=$work/crates/leaves/out/libleaves.a
 cc -O3 -Wall -Wextra -o "$work/leaves" "$top/bench/leaves.c" "$lib"
 for f in leaf_sound leaf_failures leaf_recent leaf_expired leaf_turn_over; do
     objdump -dr --disassemble=$f --no-show-raw-insn "$lib" > "$work/$f.s"

@@ -1,6 +1,6 @@
 #!/usr/bin/env bash
 # Times the soundness test with its code at each of the four places in a 64-byte line that the linker may give it. Run from the
-# repository's top, after rt staticlib capi.
+# repository's top, after tools/archive.
 set -eu
 lib=target/staticlib/libcapi.a
 work=target/placement

@@ -19,7 +19,7 @@ c_program() { # name, source
     try "$1" "$out/$1"
 }
 
-try "the archive" rt staticlib capi
+try "the archive" tools/archive
 c_program breaker examples/breaker.c
 c_program waiting examples/waiting.c
 sed -n '/^    #include <stdio.h>/,/^    }/s/^    //p' README.md > "$out/readme.c"

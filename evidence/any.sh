@@ -11,7 +11,7 @@ seed=${3:-1}
 lib=target/staticlib/libcapi.a
 out=target/evidence
 command -v gcc > /dev/null || { echo "gcc is missing: nothing was run"; exit 1; }
-rt staticlib capi
+tools/archive
 mkdir -p "$out"
 wrong=0
 build() { # name, further arguments

@@ -1,7 +1,7 @@
 /* A breaker from C: the case of document 01's journal, a ratio breaker with an inner limiter, whose units are lost nowhere, a batch,
  * flags, and wrong use.
  *
- *     rt staticlib capi
+ *     tools/archive
  *     cc -Wall -Wextra -Werror -std=c11 -Iinclude examples/breaker.c target/staticlib/libcapi.a -o breaker && ./breaker
  *
  * It prints what it is told, and exits 0 only if all of it is as document 01 says. */

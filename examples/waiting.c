@@ -1,6 +1,6 @@
 /* Waits for an inner limiter from C: turns that a host follows, the units that it gives back, a deadline, a run, drops, and wrong use.
  *
- *     rt staticlib capi
+ *     tools/archive
  *     cc -Wall -Wextra -Werror -std=c11 -Iinclude examples/waiting.c target/staticlib/libcapi.a -o waiting && ./waiting
  *
  * It prints what it is told, and exits 0 only if all of it is as document 01 says. */

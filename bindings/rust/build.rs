@@ -1,4 +1,4 @@
-//! Links `libcapi.a` from the folder PUDVIREZ_LIB_DIR, or from where `rt staticlib capi` puts it.
+//! Links `libcapi.a` from the folder PUDVIREZ_LIB_DIR, or from where `tools/archive` puts it.
 use std::path::{Path, PathBuf};
 
 const DEFAULT: &str = "../../target/staticlib";
@@ -16,7 +16,7 @@ fn main() {
     println!("cargo:rerun-if-changed={}", archive.display());
     let Ok(found) = archive.canonicalize() else {
         eprintln!(
-            "error: {} is missing: run bindings/test.sh or `rt staticlib capi` first, \
+            "error: {} is missing: run bindings/test.sh or `tools/archive` first, \
              or name its folder in PUDVIREZ_LIB_DIR",
             archive.display()
         );

@@ -1,6 +1,6 @@
 //! A breaker before a rate limiter of our own, which is asked only where the breaker admits.
 //!
-//!     rt staticlib capi
+//!     tools/archive
 //!     cargo run --example limiter        # in bindings/rust
 //!
 //! The service fails from the third call on. Once the breaker is open no call takes a unit.
