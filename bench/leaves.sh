@@ -40,7 +40,7 @@ pub extern "C" fn leaf_turn_over(list: &mut [u64], len: u32, gone: u32, item: u6
     number(history::turn_over(list, len, gone, item))
 }
 RT
-(cd "$work/crates/leaves" && rt lib > ../../build.out 2>&1) || { tail -5 "$work/build.out"; exit 1; }
+(cd "$work/crates/leaves" && rt lib --cpu=x86-64 > ../../build.out 2>&1) || { tail -5 "$work/build.out"; exit 1; }
 lib=$work/crates/leaves/out/libleaves.a
 cc -O3 -Wall -Wextra -o "$work/leaves" "$top/bench/leaves.c" "$lib"
 for f in leaf_sound leaf_failures leaf_recent leaf_expired leaf_turn_over; do

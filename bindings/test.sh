@@ -1,6 +1,6 @@
 #!/usr/bin/env bash
 # Makes the archive of the C interface, runs the C programs of examples/ and README.md, and tests the Rust crate. Says one line if all pass, else
-# what failed. Needs the kit, gcc and cargo; fetches nothing, and writes to target/ alone.
+# what failed. Needs the kit, gcc and cargo; fetches nothing, and writes to target/ and to crates/*/out alone.
 set -eu
 cd "$(dirname "$0")/.."
 unset PUDVIREZ_LIB_DIR PUDVIREZ_INCLUDE
