@@ -13,7 +13,7 @@ set -- $(readelf -SW "$program" | sed -n 's/^ *\[ *[0-9]*\] *//p' | awk '$1 == "
 shift_by=$((0x$1 - 0x$2))
 # jumps within the archive's functions: address, length in bytes of the opcode, the byte that says which, name
 jumps() {
-    nm -S --defined-only "$program" | grep -E ' (pudvirez_|(error|history|trip|breaker|steps|admission|circuit|crossing|plain|capi)::)' | while read -r at size _ name; do
+    nm -S --defined-only "$program" | grep -E ' (pudvirez_|(error|history|trip|breaker|steps|outcomes|admission|circuit|batch|preview|crossing|plain|capi)::)' | while read -r at size _ name; do
         objdump -d -w --start-address=0x"$at" --stop-address=$((0x$at + 0x$size)) "$program" |
             awk -F'\t' -v kinds="^($kinds) " -v name="$name" '$3 ~ kinds { split($2, b, " "); sub(/:.*/, "", $1); gsub(/ /, "", $1)
                 split($3, w, " "); print $1, (b[1] == "0f") ? 1 : 0, (b[1] == "0f") ? b[2] : b[1], w[1], name }'

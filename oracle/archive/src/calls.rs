@@ -4,7 +4,7 @@ use throttle::plain::{Answer, Call, End};
 use throttle::scope::PLACES;
 
 use crate::convert::{flag, own, plain_told};
-use crate::ffi::{self, Setting};
+use crate::ffi::{self, Preview, Setting};
 use crate::side::{ROOM, Side};
 
 /// How a call is handed in.
@@ -140,6 +140,25 @@ impl Side {
             }
         };
         plain_told(told)
+    }
+
+    /// What a settle or an abort would tell and leave.
+    pub fn preview(&self, now: u64, call: &Call, how: &Handing) -> Preview {
+        assert!(how.places <= ROOM);
+        let (b, list, places) = (&raw const self.breaker, self.list.as_ptr(), how.places);
+        let (own, flag) = (|ticket| own(ticket, how.yes), |value| flag(value, how.yes));
+        // SAFETY: the list has so many places.
+        unsafe {
+            match *call {
+                Call::Settle { ticket, success } => {
+                    ffi::pudvirez_preview_settle(b, list, places, now, own(ticket), flag(success))
+                }
+                Call::Abort { ticket, via_trait } => {
+                    ffi::pudvirez_preview_abort(b, list, places, own(ticket), flag(via_trait))
+                }
+                _ => panic!("{call:?} has no preview"),
+            }
+        }
     }
 
     pub fn board(&self, places: usize) -> Answer {

@@ -4,7 +4,7 @@ use throttle::plain::{self, Call, State};
 use throttle::scope::PLACES;
 
 use crate::task::{CALLS, Task};
-use archive::ffi::{self, Breaker};
+use archive::ffi::{self, Breaker, Preview};
 use archive::{flag, own};
 
 /// The byte that stands for true.
@@ -56,6 +56,23 @@ impl Ours {
             }
         };
         told.number
+    }
+
+    /// What a settle would do.
+    #[inline]
+    pub fn preview(&self, now: u64, call: Call) -> Preview {
+        let Call::Settle { ticket, success } = call else {
+            panic!("{call:?} is not previewed")
+        };
+        let (ticket, success) = (own(ticket, YES), flag(success, YES));
+        let list = self.list.as_ptr();
+        // SAFETY: the list has so many places.
+        unsafe { ffi::pudvirez_preview_settle(&self.breaker, list, PLACES, now, ticket, success) }
+    }
+
+    /// Whether this is what the record holds.
+    pub fn is_as(&self, preview: &Preview) -> bool {
+        self.breaker == preview.breaker && self.breaker.shared.len == preview.len
     }
 
     pub fn finish_all(&mut self, batch: &mut Batch) -> u32 {

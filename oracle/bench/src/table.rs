@@ -28,6 +28,12 @@ pub fn print() {
             ours / floor.max(1.0),
         );
     }
+    println!("| Call, policy, items | Call ns | Preview ns |");
+    println!("|---|---|---|");
+    for task in Task::previewed() {
+        let (call, preview) = (ours(&task), preview(&task));
+        println!("| {} | {call:.0} | {preview:.0} |", task.name());
+    }
 }
 
 /// Calls that are timed. A batch is one on our side, and so many on theirs.
@@ -99,5 +105,25 @@ fn ours(task: &Task) -> f64 {
     }
     let same = side.borrow().holds(&subject.state());
     assert!(same, "{}: both sides end alike", task.name());
+    time
+}
+
+/// A preview of the second call, which stays the same: nothing moves.
+fn preview(task: &Task) -> f64 {
+    let subject = Subject::new(&task.settings());
+    let mut side = Ours::new();
+    side.set(subject.config(), &task.state());
+    let (now, call) = task.call(0);
+    assert_eq!(side.call(now, call), 0);
+    let (now, call) = task.call(1);
+    let run = |(): &mut ()| {
+        for _ in 0..CALLS {
+            assert_eq!(black_box(side.preview(now, call)).told.number, 0);
+        }
+    };
+    let time = least(RUNS, || (), run) / f64::from(CALLS);
+    let seen = side.preview(now, call);
+    assert_eq!(side.call(now, call), 0);
+    assert!(side.is_as(&seen), "{}: as previewed", task.name());
     time
 }

@@ -61,6 +61,19 @@ impl Task {
         all
     }
 
+    /// Those that are previewed too: settles on no list and on the longest ones.
+    pub fn previewed() -> Vec<Self> {
+        let settles = |task: &Self| matches!(task.kind, Kind::Success | Kind::Failure);
+        let longest = |task: &Self| match task.policy {
+            Policy::Consecutive => true,
+            Policy::Ratio => task.items == PLACES,
+            Policy::Windowed => task.items == PLACES - 1,
+        };
+        let mut all = Self::all();
+        all.retain(|task| settles(task) && longest(task));
+        all
+    }
+
     pub fn name(&self) -> String {
         let policy = match self.policy {
             Policy::Consecutive => "Consecutive",

@@ -70,6 +70,14 @@ impl Step {
         }
     }
 
+    /// The call of a step that is previewed before it is made.
+    pub fn previewed(&self) -> Option<&Call> {
+        match &self.op {
+            Op::Call(call @ (Call::Settle { .. } | Call::Abort { .. })) => Some(call),
+            _ => None,
+        }
+    }
+
     /// What is called, as a place in `OPS` or past it in `MORE`, if anything is.
     pub fn index(&self) -> Option<usize> {
         Some(match &self.op {
@@ -82,10 +90,18 @@ impl Step {
             Op::Finish { .. } => OPS.len() + 7,
         })
     }
+
+    /// And of what is previewed before.
+    pub fn preview_index(&self) -> Option<usize> {
+        self.previewed().map(|call| match call {
+            Call::Settle { .. } => OPS.len() + 8,
+            _ => OPS.len() + 9,
+        })
+    }
 }
 
 /// The calls past those of `OPS`.
-pub const MORE: [&str; 8] = [
+pub const MORE: [&str; 10] = [
     "permit_success",
     "permit_failure",
     "permit_dropped",
@@ -94,6 +110,8 @@ pub const MORE: [&str; 8] = [
     "board",
     "is_sound",
     "finish_all",
+    "preview_settle",
+    "preview_abort",
 ];
 
 /// The name of a place.

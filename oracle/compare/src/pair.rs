@@ -1,6 +1,6 @@
 //! The Rust and the archive side by side: a step on both, and all compared.
 
-use archive::ffi::{Breaker, Counts, Shared};
+use archive::ffi::{self, Breaker, Counts, Preview, Shared};
 use archive::{Named, Side, config, flag, shared, state};
 use throttle::Subject;
 use throttle::plain::{Answer, Call, Config, Settings, State};
@@ -27,17 +27,26 @@ pub struct Pair {
 /// What was expected and given.
 pub struct Difference(pub String);
 
-/// What a call told, and the numbers in the answers of a finishing sequence.
+/// What a call told, the numbers in the answers of a finishing sequence, and what a preview said before.
 #[derive(Debug, PartialEq, Eq)]
 struct Told {
     answer: Answer,
     answers: Vec<u64>,
+    preview: Option<Preview>,
 }
 
 impl Told {
     fn of(answer: Answer) -> Self {
         let answers = Vec::new();
-        Self { answer, answers }
+        Self::all(answer, answers)
+    }
+
+    fn all(answer: Answer, answers: Vec<u64>) -> Self {
+        Self {
+            answer,
+            answers,
+            preview: None,
+        }
     }
 }
 
@@ -88,8 +97,14 @@ impl Pair {
 
     fn undamaged(&mut self, step: &Step) -> Result<Answer, Difference> {
         let refusal = expect::refusal(step, true);
-        let given = self.given(step);
-        let expected = self.expected(step, refusal, true);
+        let preview = self.preview(step);
+        if preview.is_some() && !self.same() {
+            return self.differs("a preview changed something".to_owned());
+        }
+        let mut given = self.given(step);
+        let mut expected = self.expected(step, refusal, true);
+        given.preview = preview;
+        expected.preview = preview.map(|_| previewed(&expected.answer, self.held()));
         self.compared(expected, given)
     }
 
@@ -106,12 +121,15 @@ impl Pair {
             return self.undamaged(step);
         }
         let refusal = expect::refusal(step, sound);
-        let given = self.given(step);
+        let (handed, preview) = (self.ours.breaker, self.preview(step));
+        let mut given = self.given(step);
         let built = matches!(step.op, Op::Build(_)) && refusal.is_none();
         if !built && swap(&mut self.ours, undo) != damage {
             return self.differs(format!("{damage:?} was not left"));
         }
-        let expected = self.expected(step, refusal, sound);
+        let mut expected = self.expected(step, refusal, sound);
+        given.preview = preview;
+        expected.preview = preview.map(|_| previewed(&expected.answer, handed));
         self.compared(expected, given)
     }
 
@@ -130,14 +148,18 @@ impl Pair {
         )))
     }
 
+    /// The Rust's record.
+    fn held(&self) -> Breaker {
+        Breaker {
+            config: config(&self.config),
+            shared: of_numbers(self.rust.numbers()),
+        }
+    }
+
     /// Every field and every place.
     fn same(&self) -> bool {
-        let numbers = self.rust.numbers();
-        let len = numbers[7] as usize;
-        let breaker = Breaker {
-            config: config(&self.config),
-            shared: of_numbers(numbers),
-        };
+        let breaker = self.held();
+        let len = breaker.shared.len as usize;
         self.ours.breaker == breaker
             && len <= PLACES
             && self.rust.lists(&self.ours.list[..len])
@@ -147,6 +169,12 @@ impl Pair {
 
 /// The step on the archive, and on the Rust unless it is refused.
 impl Pair {
+    /// What the archive says of the call that is to come.
+    fn preview(&mut self, step: &Step) -> Option<Preview> {
+        let call = step.previewed()?;
+        Some(self.slip.preview(&mut self.ours, step.now, call, &step.how))
+    }
+
     fn given(&mut self, step: &Step) -> Told {
         let slip = self.slip;
         let ours = &mut self.ours;
@@ -167,8 +195,7 @@ impl Pair {
                 Op::Finish { calls, short } => vec![BEFORE; calls.len() - least(*short, 4) + 1],
                 _ => Vec::new(),
             };
-            let answer = Answer::new(number, [0; 3]);
-            return Told { answer, answers };
+            return Told::all(Answer::new(number, [0; 3]), answers);
         }
         Told::of(match &step.op {
             Op::Set(_) => unreachable!("no call"),
@@ -184,8 +211,7 @@ impl Pair {
                 let one = |call: &Finishing| self.on_rust(step.now, &call.call()).number;
                 let mut answers: Vec<u64> = calls.iter().map(one).collect();
                 answers.push(BEFORE);
-                let answer = Answer::DONE;
-                return Told { answer, answers };
+                return Told::all(Answer::DONE, answers);
             }
         })
     }
@@ -224,7 +250,22 @@ fn finish(ours: &mut Side, step: &Step, calls: &[Finishing], short: Option<usize
     let mut answers = vec![BEFORE; len(4) + 1];
     let handed = &mut answers[..len(4)];
     let answer = ours.finish_all(step.now, &named, handed, step.how.places);
-    Told { answer, answers }
+    Told::all(answer, answers)
+}
+
+/// What a preview must say of a call with this answer, which left this record.
+fn previewed(answer: &Answer, breaker: Breaker) -> Preview {
+    let [v1, v2, v3] = answer.values;
+    Preview {
+        told: ffi::Told {
+            number: answer.number as u32,
+            v1,
+            v2,
+            v3,
+        },
+        breaker,
+        len: breaker.shared.len,
+    }
 }
 
 fn of_numbers(numbers: [u64; 8]) -> Shared {

@@ -1,11 +1,11 @@
 //! Slips on the archive's side, to see that the comparison finds them.
 
-use archive::ffi::{Breaker, Shared};
+use archive::ffi::{Breaker, Preview, Shared};
 use archive::{Handing, Side};
 use throttle::plain::{Answer, CLOSED, Call, End, HALF_OPEN, OPEN, RATIO, WINDOWED};
 use throttle::scope::PLACES;
 
-pub const SLIPS: [&str; 11] = [
+pub const SLIPS: [&str; 13] = [
     "open-until compared with >",
     "a success evicts a time equal to the cutoff",
     "exact fractions compared",
@@ -17,6 +17,8 @@ pub const SLIPS: [&str; 11] = [
     "trait probes wrap",
     "still_admits refuses its own generation in Open",
     "a flag goes by its lowest bit",
+    "a preview's length leaves out what would be evicted",
+    "a preview makes the record what it would be",
 ];
 
 /// A place in `SLIPS` from 1 on; 0 is none.
@@ -45,6 +47,21 @@ impl Slip {
             }
             _ => self.told(before, ours, now, call, answer),
         }
+    }
+
+    /// A preview on the archive, with the slip.
+    pub fn preview(self, ours: &mut Side, now: u64, call: &Call, how: &Handing) -> Preview {
+        let mut preview = ours.preview(now, call, how);
+        let Breaker { config, shared } = &ours.breaker;
+        let moved = preview.breaker.shared != *shared;
+        match self.0 {
+            12 if moved && config.kind == WINDOWED && shared.state == CLOSED => {
+                preview.len = shared.len + u32::from(failed(call));
+            }
+            13 => ours.breaker = preview.breaker,
+            _ => {}
+        }
+        preview
     }
 
     fn reading(self, ours: &Side, now: u64, call: &Call) -> u64 {

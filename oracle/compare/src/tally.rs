@@ -29,6 +29,9 @@ impl Tally {
         let Some(index) = step.index() else { return };
         self.steps += 1;
         self.told[index][answer.number as usize] += 1;
+        if let Some(preview) = step.preview_index() {
+            self.told[preview][answer.number as usize] += 1;
+        }
         self.full_lists += u64::from(after.len == 4096);
         if matches!(step.op, Op::Build(_)) || before.generation == after.generation {
             return;
