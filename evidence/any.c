@@ -8,7 +8,8 @@
  * the 255 other bytes in turn.
  *
  * Each buffer is exactly as large as its count says, either on the heap (for sanitizers and valgrind) or against a page that can't be
- * touched (for code that no sanitizer has seen). It prints the counts, and exits 0 only without a finding. */
+ * touched (for code that no sanitizer has seen). For a call that only reads, record and storage against such a page can't be written.
+ * It prints the counts, and exits 0 only without a finding. */
 #define _GNU_SOURCE
 #include <math.h>
 #include <stdio.h>
@@ -70,6 +71,16 @@ static void *against_a_page(size_t bytes)
     return at + page + body - bytes;
 }
 
+/* Lets the pages of such a buffer be written, or only read. */
+static void protect(void *at, size_t bytes, int how)
+{
+    const uintptr_t page = (uintptr_t)sysconf(_SC_PAGESIZE), from = (uintptr_t)at / page * page;
+    if (bytes != 0 && mprotect((void *)from, (uintptr_t)at + bytes - from, how) != 0) {
+        perror("mprotect");
+        exit(2);
+    }
+}
+
 static Exact exact(size_t bytes)
 {
     Exact e = { malloc(bytes), against_a_page(bytes) };
@@ -115,9 +126,9 @@ static void make_buffers(void)
 /* ---- the functions, and the flags of each */
 
 enum { BUILD, ADMIT_AS, SETTLE, ABORT_AS, PERMIT_SUCCESS, PERMIT_FAILURE, PERMIT_DROPPED, PERMIT_CANCEL, RESET, RECORD_MANUAL, RELEASE_TRAIT_PROBE, TRY_ADMIT, ACQUIRE_COST, RESERVE, REFUND, FINISH_ALL,
-       WAIT_START, WAIT_TURN, WAIT_RUN, WAIT_DROP, STILL_ADMITS, PEEK, AVAILABLE, BOARD, IS_SOUND, FUNCTIONS };
+       WAIT_START, WAIT_TURN, WAIT_RUN, WAIT_DROP, STILL_ADMITS, PREVIEW_SETTLE, PREVIEW_ABORT, PEEK, AVAILABLE, BOARD, IS_SOUND, FUNCTIONS };
 static const char *const names[FUNCTIONS] = { "build", "admit_as", "settle", "abort_as", "permit_success", "permit_failure", "permit_dropped", "permit_cancel", "reset", "record_manual", "release_trait_probe",
-       "try_admit", "acquire_cost", "reserve", "refund", "finish_all", "wait_start", "wait_turn", "wait_run", "wait_drop", "still_admits", "peek", "available", "board", "is_sound" };
+       "try_admit", "acquire_cost", "reserve", "refund", "finish_all", "wait_start", "wait_turn", "wait_run", "wait_drop", "still_admits", "preview_settle", "preview_abort", "peek", "available", "board", "is_sound" };
 
 /* A flag of a function: via_trait, success, limited or marks; a ticket's or a batch's probe; a pending wait's probe, or settles. */
 enum { MARK, PROBE, THIRD, SLOTS };
@@ -136,6 +147,8 @@ static const bool has_flag[FUNCTIONS][SLOTS] = {
     [WAIT_RUN] = { [THIRD] = true },
     [WAIT_DROP] = { [THIRD] = true },
     [STILL_ADMITS] = { [PROBE] = true },
+    [PREVIEW_SETTLE] = { [MARK] = true, [PROBE] = true },
+    [PREVIEW_ABORT] = { [MARK] = true, [PROBE] = true },
 };
 static uint8_t next_byte[FUNCTIONS][SLOTS];
 static uint64_t handed[FUNCTIONS][SLOTS][256];
@@ -380,6 +393,14 @@ static Both wait_call(void)
     }
 }
 
+/* What would be told; what would be left is held against the model here. */
+static Both preview(PudvirezPreview want, PudvirezPreview got)
+{
+    expect(same_record(&got.breaker, &want.breaker), "the record of a preview", 1, 0);
+    expect(got.len == want.len, "the length of a preview", got.len, want.len);
+    return TOLD(plain(want.told), got.told);
+}
+
 /* The calls with a ticket or a flag. */
 static Both ticket_call(void)
 {
@@ -394,6 +415,8 @@ static Both ticket_call(void)
     case PERMIT_DROPPED: return TOLD(model_settle(&model, now, t, false), pudvirez_permit_dropped(b, list, places, now, t));
     case PERMIT_CANCEL: return TOLD(model_cancel(&model, t), pudvirez_permit_cancel(b, list, places, t));
     case RECORD_MANUAL: return TOLD(model_manual(&model, now, mark != 0), pudvirez_record_manual(b, list, places, now, mark));
+    case PREVIEW_SETTLE: return preview(model_preview_settle(&model, now, t, mark != 0), pudvirez_preview_settle(b, list, places, now, t, mark));
+    case PREVIEW_ABORT: return preview(model_preview_abort(&model, t, mark != 0), pudvirez_preview_abort(b, list, places, t, mark));
     default: return TOLD(model_still_admits(&model, now, t), pudvirez_still_admits(b, list, places, now, t));
     }
 }
@@ -448,11 +471,30 @@ static void draw(void)
     met_several = false;
 }
 
+static Both call(void)
+{
+    const bool tickets = has_flag[f][MARK] || has_flag[f][PROBE];
+    return f == FINISH_ALL ? finish_all() : f >= WAIT_START && f <= WAIT_DROP ? wait_call() : tickets ? ticket_call() : other_call();
+}
+
+/* A call, on pages that it can only read if that is all it may do. */
+static Both call_on_pages(void)
+{
+    const bool reads = use_guarded && f >= STILL_ADMITS;
+    if (!reads)
+        return call();
+    protect(b, sizeof *b, PROT_READ);
+    protect(list, 8 * places, PROT_READ);
+    const Both both = call();
+    protect(b, sizeof *b, PROT_READ | PROT_WRITE);
+    protect(list, 8 * places, PROT_READ | PROT_WRITE);
+    return both;
+}
+
 static void one_round(void)
 {
     draw();
-    const bool tickets = has_flag[f][MARK] || has_flag[f][PROBE];
-    const Both both = f == FINISH_ALL ? finish_all() : f >= WAIT_START && f <= WAIT_DROP ? wait_call() : tickets ? ticket_call() : other_call();
+    const Both both = call_on_pages();
     const Answer got = both.got, want = both.want;
     expect(got.number == want.number, "the number", got.number, want.number);
     expect(got.v1 == want.v1, "v1", got.v1, want.v1);

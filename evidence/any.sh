@@ -37,8 +37,8 @@ else
 fi
 
 echo "== planted faults"
-for fault in 1 2 3 4 5 6 7 8 9 10; do
-    build "fault_$fault" -DFAULT="$fault" -Wl,--wrap=pudvirez_settle,--wrap=pudvirez_admit_as,--wrap=pudvirez_wait_drop evidence/any_faults.c
+for fault in 1 2 3 4 5 6 7 8 9 10 24 25 26 27 28; do
+    build "fault_$fault" -DFAULT="$fault" -Wl,--wrap=pudvirez_settle,--wrap=pudvirez_admit_as,--wrap=pudvirez_wait_drop,--wrap=pudvirez_preview_settle,--wrap=pudvirez_preview_abort evidence/any_faults.c
     if (ulimit -c 0; "$out/fault_$fault" 100000 "$seed") > "$out/fault_$fault.out" 2>&1; then
         echo "fault $fault was not found"
         wrong=1

@@ -389,6 +389,26 @@ Answer model_still_admits(Model *m, uint64_t now, PudvirezTicket ticket)
     return refused ? told(refused) : still_admits(m, ticket) ? told(PUDVIREZ_TOLD_OK) : tell(PUDVIREZ_TOLD_CIRCUIT_OPEN, delay(m, now), 0, 0);
 }
 
+/* W-204: "equal those of the real call made on a copy, and it reports the list length that call would leave" */
+static Model copy;
+
+static PudvirezPreview of_copy(Answer a)
+{
+    return (PudvirezPreview){ .told = { a.number, a.v1, a.v2, a.v3 }, .breaker = copy.breaker, .len = copy.breaker.shared.len };
+}
+
+PudvirezPreview model_preview_settle(const Model *m, uint64_t now, PudvirezTicket ticket, bool success)
+{
+    copy = *m;
+    return of_copy(model_settle(&copy, now, ticket, success));
+}
+
+PudvirezPreview model_preview_abort(const Model *m, PudvirezTicket ticket, bool via_trait)
+{
+    copy = *m;
+    return of_copy(model_abort(&copy, ticket, via_trait));
+}
+
 Answer model_peek(Model *m, uint64_t now, uint8_t kind, uint64_t ms)
 {
     uint32_t refused = unknown_decision(m, kind);

@@ -1,4 +1,5 @@
-/* Document 01 a second time, in C: what each call is told, and what it leaves. Written from the document, for evidence/any.c. */
+/* Document 01 a second time, in C: what each call is told, and what it leaves; with document 02's previews. Written from the documents,
+ * for evidence/any.c. */
 #ifndef MODEL_H
 #define MODEL_H
 
@@ -32,6 +33,8 @@ Answer model_try_admit(Model *m, uint64_t now, uint8_t kind, uint32_t capacity);
 Answer model_acquire_cost(Model *m, uint64_t now, uint8_t kind, uint64_t ms);
 Answer model_reserve(Model *m, uint64_t now, uint8_t kind, uint64_t ms);
 Answer model_still_admits(Model *m, uint64_t now, PudvirezTicket ticket);
+PudvirezPreview model_preview_settle(const Model *m, uint64_t now, PudvirezTicket ticket, bool success);
+PudvirezPreview model_preview_abort(const Model *m, PudvirezTicket ticket, bool via_trait);
 Answer model_peek(Model *m, uint64_t now, uint8_t kind, uint64_t ms);
 Answer model_available(Model *m, uint64_t now, uint8_t kind, uint32_t count);
 Answer model_board(Model *m);

@@ -183,6 +183,50 @@ static void permits(void)
     stands(&b, PUDVIREZ_STATE_OPEN, 1, 0, 0, 30150);
 }
 
+/* Prints what a call would be told, and checks that and the length of the list that it would leave. */
+static void would(const char *call, const PudvirezPreview *p, uint32_t number, uint32_t len)
+{
+    told(call, p->told, number, 0, 0);
+    expect(p->len == len && p->breaker.shared.len == len, "the length");
+}
+
+/* A look before each outcome of two failures, and before the end of a trial. The breaker stays as it is until it is told. */
+static void previews(void)
+{
+    PudvirezBreaker b;
+    PudvirezSetting setting = { .kind = PUDVIREZ_POLICY_WINDOWED, .limit = 2, .period_nanos = 100000000, .cooldown_secs = 1, .trials = 2, .required = 2 };
+    PudvirezTicket ticket = { .generation = 0, .probe = 0 }, stale = { .generation = 7, .probe = 0 };
+    told("build Windowed 2 in 100 ms", pudvirez_build(&b, list, PUDVIREZ_PLACES, setting), PUDVIREZ_TOLD_OK, 0, 0);
+    told("failure at 0", pudvirez_settle(&b, list, PUDVIREZ_PLACES, 0, ticket, 0), PUDVIREZ_TOLD_OK, 0, 0);
+    const PudvirezBreaker before = b;
+    PudvirezPreview p = pudvirez_preview_settle(&b, list, PUDVIREZ_PLACES, 101, ticket, 0);
+    would("preview of a failure at 101", &p, PUDVIREZ_TOLD_OK, 1);
+    stands(&p.breaker, PUDVIREZ_STATE_CLOSED, 0, 0, 0, 0);
+    p = pudvirez_preview_settle(&b, list, PUDVIREZ_PLACES, 101, ticket, 1);
+    would("preview of a success at 101", &p, PUDVIREZ_TOLD_OK, 0);
+    p = pudvirez_preview_settle(&b, list, PUDVIREZ_PLACES, 101, stale, 0);
+    would("preview of a stale failure", &p, PUDVIREZ_TOLD_OK, 1);
+    expect(same(&p.breaker, &before), "a stale ticket changes nothing");
+    p = pudvirez_preview_settle(&b, list, PUDVIREZ_PLACES - 1, 30, ticket, 0);
+    would("preview, 4,095 places", &p, PUDVIREZ_TOLD_STORAGE, 1);
+    expect(same(&p.breaker, &before), "the record handed in");
+    p = pudvirez_preview_settle(&b, list, PUDVIREZ_PLACES, 30, ticket, 0);
+    would("preview of a failure at 30", &p, PUDVIREZ_TOLD_OK, 2);
+    stands(&p.breaker, PUDVIREZ_STATE_OPEN, 1, 0, 0, 1030);
+    expect(same(&b, &before) && list[0] == 0 && list[1] == 0, "all as it was");
+    told("failure at 30", pudvirez_settle(&b, list, PUDVIREZ_PLACES, 30, ticket, 0), PUDVIREZ_TOLD_OK, 0, 0);
+    expect(same(&b, &p.breaker) && list[1] == 30, "as previewed");
+    told("a trial", pudvirez_admit_as(&b, list, PUDVIREZ_PLACES, 1030, 0), PUDVIREZ_TOLD_OK, 2, 1);
+    ticket = (PudvirezTicket){ .generation = 2, .probe = 1 };
+    p = pudvirez_preview_abort(&b, list, PUDVIREZ_PLACES, ticket, 0);
+    would("preview of its abort", &p, PUDVIREZ_TOLD_OK, 2);
+    stands(&p.breaker, PUDVIREZ_STATE_HALF_OPEN, 2, 0, 0, 1030);
+    p = pudvirez_preview_settle(&b, list, PUDVIREZ_PLACES, 1040, ticket, 1);
+    would("preview of its success", &p, PUDVIREZ_TOLD_OK, 2);
+    stands(&p.breaker, PUDVIREZ_STATE_HALF_OPEN, 2, 0, 1, 1030);
+    stands(&b, PUDVIREZ_STATE_HALF_OPEN, 2, 1, 0, 1030);
+}
+
 /* A flag of any number but 0 is true. */
 static void flags(void)
 {
@@ -233,6 +277,7 @@ int main(void)
     limiter();
     units();
     permits();
+    previews();
     flags();
     wrong_use();
     puts(wrong == 0 ? "all as document 01 says" : "not as document 01 says");

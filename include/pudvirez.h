@@ -7,9 +7,9 @@
  * Readings (`now_ms`) are milliseconds of a clock of the caller's, and may go back.
  * Compare and store fields, not bytes: what lies between the fields of a struct is not defined.
  *
- * WHAT IS TOLD. Every function answers a PudvirezTold (pudvirez_is_sound a bool, those of a wait a PudvirezWaited): `number` is a
- * PUDVIREZ_TOLD_ constant, OK where the call was not refused, and the values are in their order, 0 where there is none. Comments leave
- * that prefix out. Refusals are tested in the order STORAGE, UNSOUND, TURN, TIME, LIMIT; the rest as the rules meet them. A call that is
+ * WHAT IS TOLD. Every function answers a PudvirezTold (pudvirez_is_sound a bool, those of a wait a PudvirezWaited, a preview a
+ * PudvirezPreview with one in it): `number` is a PUDVIREZ_TOLD_ constant, OK where the call was not refused, and the values are in their
+ * order, 0 where there is none. Comments leave that prefix out. Refusals are tested in the order STORAGE, UNSOUND, TURN, TIME, LIMIT; the rest as the rules meet them. A call that is
  * told 1 to 6 or 11 leaves the record and every place as they were. After INNER_RETRY and COST_EXCEEDS_CAPACITY the admission has been
  * given back; a transition that it made stays. For the calls of a wait see WAITS.
  *
@@ -35,9 +35,9 @@
  *
  * FLOATING POINT. Exceptions must be masked, as they are by default. What is sound and what a ratio becomes go by the ratio's bits: no
  * rounding, FTZ or DAZ changes them. The trip of PUDVIREZ_POLICY_RATIO is one binary64 division and one comparison, made where a failure is
- * recorded (pudvirez_settle, pudvirez_permit_failure, pudvirez_permit_dropped, pudvirez_record_manual, pudvirez_finish_all). It is promised
- * in the default mode alone: round to nearest, no FTZ or DAZ. A program that changes the mode, or is linked with -Ofast, which does, must
- * restore it around these calls.
+ * recorded (pudvirez_settle, pudvirez_permit_failure, pudvirez_permit_dropped, pudvirez_record_manual, pudvirez_finish_all) or would be
+ * (pudvirez_preview_settle). It is promised in the default mode alone: round to nearest, no FTZ or DAZ. A program that changes the mode, or
+ * is linked with -Ofast, which does, must restore it around these calls.
  */
 #ifndef PUDVIREZ_H
 #define PUDVIREZ_H
@@ -227,6 +227,14 @@ typedef struct {
     uint64_t taken; /* the turns that a run took, 0 elsewhere */
 } PudvirezWaited;
 
+/* What a call would tell, and the record and the length of the list that it would leave. Where it would be refused the record is the one
+ * handed in. The list that belongs to the record is not made: to have it, make the call. */
+typedef struct {
+    PudvirezTold told;
+    PudvirezBreaker breaker;
+    uint32_t len; /* breaker.shared.len */
+} PudvirezPreview;
+
 /* ---- making a breaker */
 
 /* Puts a fresh breaker into record and storage, whatever they held: Closed, generation 0, every counter and place 0. Told OK.
@@ -323,6 +331,13 @@ PudvirezWaited pudvirez_wait_drop(PudvirezBreaker *breaker, uint64_t *list, size
 /* Whether a waiter with this ticket may still go: OK for the present generation or while Closed. Refuses with CIRCUIT_OPEN: v1 is what is
  * left until open-until while Open, and 0 in HalfOpen. */
 PudvirezTold pudvirez_still_admits(const PudvirezBreaker *breaker, const uint64_t *list, size_t places, uint64_t now_ms, PudvirezTicket ticket);
+
+/* What pudvirez_settle would tell and leave; nothing is changed. Refuses with FULL, as that does. Refused, with STORAGE and UNSOUND too, it
+ * gives back the record handed in, and as len its field, whatever that is. */
+PudvirezPreview pudvirez_preview_settle(const PudvirezBreaker *breaker, const uint64_t *list, size_t places, uint64_t now_ms, PudvirezTicket ticket, uint8_t success);
+
+/* What pudvirez_abort_as would tell and leave; nothing is changed. Refused it gives back as pudvirez_preview_settle does. */
+PudvirezPreview pudvirez_preview_abort(const PudvirezBreaker *breaker, const uint64_t *list, size_t places, PudvirezTicket ticket, uint8_t via_trait);
 
 /* The decision that pudvirez_acquire_cost would tell, without a transition; the reply is the inner limiter's peek.
  * Refuses with TURN for an unknown kind. */

@@ -194,6 +194,14 @@ pub struct Waited {
     pub taken: u64,
 }
 
+#[repr(C)]
+#[derive(Debug, Clone, Copy, Default, PartialEq, Eq)]
+pub struct Preview {
+    pub told: Told,
+    pub breaker: Breaker,
+    pub len: u32,
+}
+
 // The whole header; the safe types call a part of it, the tests and the oracle the rest.
 #[allow(dead_code)]
 unsafe extern "C" {
@@ -375,6 +383,23 @@ unsafe extern "C" {
         now_ms: u64,
         ticket: Ticket,
     ) -> Told;
+
+    pub fn pudvirez_preview_settle(
+        breaker: *const Breaker,
+        list: *const u64,
+        places: usize,
+        now_ms: u64,
+        ticket: Ticket,
+        success: u8,
+    ) -> Preview;
+
+    pub fn pudvirez_preview_abort(
+        breaker: *const Breaker,
+        list: *const u64,
+        places: usize,
+        ticket: Ticket,
+        via_trait: u8,
+    ) -> Preview;
 
     pub fn pudvirez_peek(
         breaker: *const Breaker,

@@ -27,6 +27,7 @@ mod error;
 mod ffi;
 mod owned;
 mod permit;
+mod preview;
 mod waiting;
 
 pub use breaker::{BreakerState, CircuitBreaker};
@@ -35,6 +36,7 @@ pub use clock::{Clock, ManualClock, SystemClock};
 pub use decision::Decision;
 pub use error::ThrottleError;
 pub use permit::Permit;
+pub use preview::{Outcome, Preview};
 pub use waiting::{Host, Reply, Waiting};
 
 // The README's lines are tested too.

@@ -108,6 +108,25 @@ impl Owned {
         Ok(())
     }
 
+    /// What settling would tell and leave.
+    pub(crate) fn preview_settle(
+        &self,
+        now_ms: u64,
+        ticket: Ticket,
+        success: bool,
+    ) -> ffi::Preview {
+        let (list, n) = (self.places.as_ptr(), self.places.len());
+        unsafe {
+            ffi::pudvirez_preview_settle(&self.record, list, n, now_ms, ticket, success.into())
+        }
+    }
+
+    /// What giving the admission back would tell and leave.
+    pub(crate) fn preview_abort(&self, ticket: Ticket) -> ffi::Preview {
+        let (list, n, plain) = (self.places.as_ptr(), self.places.len(), false.into());
+        unsafe { ffi::pudvirez_preview_abort(&self.record, list, n, ticket, plain) }
+    }
+
     pub(crate) fn board(&self) -> Result<u64, ThrottleError> {
         let told = self.read(|b, list, n| unsafe { ffi::pudvirez_board(b, list, n) })?;
         Ok(told.v1)

@@ -5,6 +5,7 @@ use crate::breaker::{told, CircuitBreaker};
 use crate::clock::{Clock, SystemClock};
 use crate::error::ThrottleError;
 use crate::ffi::Ticket;
+use crate::preview::{Outcome, Preview};
 
 /// An admitted call. Settle it once the outcome is known; dropped unsettled it is a failure.
 ///
@@ -68,6 +69,43 @@ impl<'a, C: Clock> Permit<'a, C> {
     pub fn cancel(mut self) -> u32 {
         self.settled = true;
         told(self.breaker.lock().permit_cancel(self.ticket))
+    }
+
+    /// What finishing the permit so would answer and leave, at the clock's present reading. Nothing
+    /// changes, and the permit is still to be finished; until then another thread may move the breaker.
+    ///
+    /// # Examples
+    ///
+    /// ```
+    /// use std::time::Duration;
+    /// use pudvirez::{BreakerState, CircuitBreaker, Decision, ManualClock, Outcome, Trip};
+    ///
+    /// let breaker = CircuitBreaker::builder()
+    ///     .trip(Trip::Consecutive(1))
+    ///     .cooldown(Duration::from_secs(1))
+    ///     .build(ManualClock::new(30))?;
+    /// let permit = breaker.try_acquire(Decision::Acquired)?;
+    /// let preview = permit.preview(Outcome::Failure);
+    /// assert_eq!(preview.state, BreakerState::Open);
+    /// assert_eq!(preview.to_string(), "would open until 1030 ms");
+    ///
+    /// assert_eq!(breaker.state(), BreakerState::Closed);
+    /// permit.failure()?;
+    /// assert_eq!(breaker.state(), preview.state);
+    /// # Ok::<(), pudvirez::ThrottleError>(())
+    /// ```
+    #[must_use]
+    pub fn preview(&self, outcome: Outcome) -> Preview {
+        let now_ms = match outcome {
+            Outcome::Success | Outcome::Failure => Some(self.breaker.now_ms()),
+            Outcome::Cancel => None,
+        };
+        let owned = self.breaker.lock();
+        let told = match now_ms {
+            Some(now_ms) => owned.preview_settle(now_ms, self.ticket, outcome == Outcome::Success),
+            None => owned.preview_abort(self.ticket),
+        };
+        Preview::new(told, &owned.record, self.ticket, outcome)
     }
 
     /// The reading to settle at. A clock that panics leaves the permit to its drop.

@@ -124,6 +124,10 @@ static void answers(void)
     FIELD(PudvirezWaited, v3);
     FIELD(PudvirezWaited, v4);
     FIELD(PudvirezWaited, taken);
+    WHOLE(PudvirezPreview);
+    FIELD(PudvirezPreview, told);
+    FIELD(PudvirezPreview, breaker);
+    FIELD(PudvirezPreview, len);
 }
 
 int main(void)

@@ -6,6 +6,7 @@
 mod calls;
 mod limiter;
 mod permits;
+mod previews;
 mod waits;
 
 pub use calls::{
@@ -20,4 +21,5 @@ pub use permits::{
     pudvirez_permit_cancel, pudvirez_permit_dropped, pudvirez_permit_failure,
     pudvirez_permit_success,
 };
+pub use previews::{pudvirez_preview_abort, pudvirez_preview_settle};
 pub use waits::{pudvirez_wait_drop, pudvirez_wait_run, pudvirez_wait_start, pudvirez_wait_turn};

@@ -18,6 +18,8 @@ use Rattle.breaker.specs.Rules.{Outcome}
 use Rattle.breaker.specs.Calls.{After, after, guarded, on_sound, asked, built}
 use Rattle.breaker.specs.Batch.{Batch}
 use Rattle.crossing.specs.declared.Told.{Told}
+use Rattle.preview.specs.Preview.{Preview}
+use Rattle.crossing.specs.declared.PlainPreview.{PlainPreview}
 use Rattle.crossing.specs.declared.Setting.{Setting}
 use Rattle.crossing.specs.declared.PlainTicket.{PlainTicket}
 
@@ -49,6 +51,10 @@ crossings l a = record { left = l; answers = a }
 
 unfoldable pub crossed_all : Batch → Crossings
 crossed_all x = crossings (crossed x.left) x.answers
+
+-- what a preview saw, with what the call would tell as plain numbers
+abbrev pub packed_preview : Preview → PlainPreview
+packed_preview p = record { told = packed p.told; breaker = p.breaker; len = p.len }
 
 -- ---- a ticket that comes in
 

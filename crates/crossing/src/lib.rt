@@ -8,6 +8,7 @@ mod tell;
 mod tell_wait;
 mod ticket;
 
+use breaker::Breaker;
 pub use reply::{decision_by, is_reply, is_reservable, reservation_by, tell_unknown};
 pub use settings::{builder_by, is_policy, tell_unknown_policy};
 pub use tell::{
@@ -40,6 +41,15 @@ pub struct Waited {
     pub v4: u64,
     // 0 where the call is no run
     pub taken: u64,
+}
+
+// What a call would tell, the record after it, and the length of the list that it would leave.
+#[repr(C)]
+#[derive(Clone, Copy)]
+pub struct PlainPreview {
+    pub told: Told,
+    pub breaker: Breaker,
+    pub len: u32,
 }
 
 // A setting. The numbers of another policy than its own are not read.

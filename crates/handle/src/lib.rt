@@ -1,6 +1,8 @@
 // The breaker's calls, and those of a wait before it, over records that the caller lends: each is thin over its step by value.
 #![tactic(auto)]
 
+mod previews;
+
 ghost use Rattle.std.specs.Prelude.{◌≡◌, true, false};
 ghost use Rattle.breaker.specs.Record.{HalfOpen, sound};
 ghost use Rattle.breaker.specs.Answers.{admission_told, finished_told, tried_told, standing_told, notice_told, decided_told, reserved_told, counted_told};
@@ -18,6 +20,7 @@ use breaker::{
     Admission, Breaker, Counted, Decided, Decision, Finished, Notice, Reservation, Reserved,
     Standing, Ticket, Tried,
 };
+pub use previews::{preview_abort, preview_settle};
 use trip::CircuitBreakerBuilder;
 use wait::{Dropped, Observed};
 use waiting::{Awaited, Begun, Pending, Progress};

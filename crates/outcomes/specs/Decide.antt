@@ -1,11 +1,13 @@
 -- What an outcome in Closed is decided to do, from a list that is only read. A reader of the calls' promises need not read it.
 use Rattle.std.specs.Prelude.{ℕ, Bool, true, false, not, ◌≡◌, List, [], ◌∷◌, ◌++◌, length, drop}
 use Rattle.error.specs.Choice.{bit}
-use Rattle.error.specs.Told.{refused}
+use Rattle.error.specs.Told.{Told, refused}
 use Rattle.history.specs.Items.{padded}
 use Rattle.trip.specs.Policy.{Policy, Consecutive, Ratio, Windowed}
-use Rattle.breaker.specs.Record.{Settings, State}
-use Rattle.breaker.specs.Rules.{outcome, done, with_history, opening, in_closed}
+use Rattle.trip.specs.declared.Config.{Config}
+use Rattle.breaker.specs.declared.Breaker.{Breaker}
+use Rattle.breaker.specs.Record.{Settings, State, stored}
+use Rattle.breaker.specs.Rules.{Outcome, outcome, done, with_history, opening, in_closed}
 use Rattle.outcomes.specs.declared.Change.{Change}
 use Rattle.outcomes.specs.declared.Recorded.{Recorded}
 use Rattle.outcomes.specs.declared.Recorded.TheVariants.{Refused, Counted, Tripped}
@@ -40,3 +42,7 @@ abbrev pub places_after : Settings → ℕ → Bool → State → Recorded → L
 places_after s reading good st (Refused r) = padded st.list
 places_after s reading good st (Counted x) = padded (changed s.policy (not good) reading x.gone st.list)
 places_after s reading good st (Tripped x) = padded (changed s.policy (not good) reading x.gone st.list)
+
+-- what is told, and the record, are those of the outcome
+abbrev pub Makes : Config → Outcome → Told → Breaker → Type 0
+Makes c o told b = (told ≡ o.told) × (b ≡ stored c o.after)

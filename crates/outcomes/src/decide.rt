@@ -1,20 +1,22 @@
 // What an outcome would do: the record after it, and what becomes of the list, which is only read.
 // Each promises for every sound breaker; on any other it is safe, and promises nothing.
-ghost use Rattle.std.specs.Prelude.{◌≡◌, ℕ, ◌+◌, ◌-◌, ◌≤◌, true};
+ghost use Rattle.std.specs.Prelude.{◌≡◌, ℕ, ◌+◌, ◌-◌, ◌≤◌, Bool, true};
 ghost use Rattle.std.specs.Float.{binary64};
 ghost use Rattle.std.specs.Float.Ieee.{of_bits};
+ghost use Rattle.error.specs.Told.{nothing};
 ghost use Rattle.trip.specs.declared.Config.{Config};
 ghost use Rattle.trip.specs.Policy.{Consecutive, Ratio, Windowed, policy_of};
 ghost use Rattle.breaker.specs.Record.{State, settings, stored, sound};
-ghost use Rattle.breaker.specs.Rules.{in_half_open};
+ghost use Rattle.breaker.specs.Answers.{finished_told};
+ghost use Rattle.breaker.specs.Rules.{in_half_open, in_closed, settled};
 ghost use Rattle.steps.specs.Steps.{Holds};
-ghost use Rattle.outcomes.specs.Decide.{counted_as, Decides};
+ghost use Rattle.outcomes.specs.Decide.{counted_as, Decides, Makes};
 
 use crate::{Change, Recorded};
-use breaker::{Breaker, Ticket, items_of};
+use breaker::{Breaker, CLOSED, Finished, HALF_OPEN, Settled, Ticket, items_of};
 use error::Refusal;
 use history::{Items, MOST_ITEMS};
-use steps::{closed, one_less, one_more, opened, with_counts};
+use steps::{closed, one_less, one_more, opened, with_counts, with_history};
 
 // An outcome in HalfOpen: the record after it.
 // Ruled out: a failure counted as a success; a success that frees a trial which its ticket does not hold.
@@ -34,6 +36,21 @@ pub fn decide_half_open(b: Breaker, now_ms: u64, t: Ticket, success: bool) -> Br
     }
     counts.inflight = one_less(counts.inflight);
     with_counts(b, counts)
+}
+
+// A settle outside Closed, where nothing is refused: the record after it.
+// Ruled out: one that counts in Open; a stale ticket that counts.
+pub fn decide_unclosed(b: Breaker, now_ms: u64, t: Ticket, success: bool) -> Breaker
+    ensures { (b.shared.state ≡ 0 → ⊥) → (c : Config) (st : State) → b ≡ stored c st
+        → Makes c (settled (settings c) now_ms t success st) nothing result }
+{
+    if t.generation != b.shared.generation {
+        return b;
+    }
+    if b.shared.state != HALF_OPEN {
+        return b;
+    }
+    decide_half_open(b, now_ms, t, success)
 }
 
 // A failure in Closed that is counted, and trips or not.
@@ -144,4 +161,47 @@ pub fn decide_closed(b: Breaker, list: &[u64], now_ms: u64, success: bool) -> Re
         Items::Outcomes(window) => decide_outcome(b, list, window, success),
         Items::Times => decide_time(b, list, now_ms, success),
     }
+}
+
+// The answer and the record that what is decided in Closed comes to.
+// Ruled out: a failure with no room that is told as done; a trip that stays Closed.
+pub fn concluded(b: Breaker, now_ms: u64, decided: Recorded) -> Settled
+    ensures { (c : Config) (st : State) (good : Bool) → b ≡ stored c st → Decides (settings c) now_ms good st decided
+        → Makes c (in_closed (settings c) now_ms good st) (finished_told result.answer) result.breaker }
+{
+    match decided {
+        Recorded::Refused(r) => Settled {
+            answer: Finished::Refused(r),
+            breaker: b,
+        },
+        Recorded::Counted(change) => Settled {
+            answer: Finished::Done,
+            breaker: with_history(b, change.run, change.len),
+        },
+        Recorded::Tripped(change) => Settled {
+            answer: Finished::Done,
+            breaker: opened(with_history(b, change.run, change.len), now_ms),
+        },
+    }
+}
+
+// A settle in any state, all but the storing: its answer and the record after it.
+// Ruled out: a stale ticket that counts; one that forgets what leaves the list.
+pub fn decide_settle(b: Breaker, list: &[u64], now_ms: u64, t: Ticket, success: bool) -> Settled
+    ensures { sound b list.now ≡ true → (c : Config) (st : State) → Holds c st b list.now
+        → Makes c (settled (settings c) now_ms t success st) (finished_told result.answer) result.breaker }
+{
+    if b.shared.state != CLOSED {
+        return Settled {
+            answer: Finished::Done,
+            breaker: decide_unclosed(b, now_ms, t, success),
+        };
+    }
+    if t.generation != b.shared.generation {
+        return Settled {
+            answer: Finished::Done,
+            breaker: b,
+        };
+    }
+    concluded(b, now_ms, decide_closed(b, list, now_ms, success))
 }

@@ -4,7 +4,7 @@
 mod decide;
 mod settle;
 
-pub use decide::{decide_closed, decide_half_open};
+pub use decide::{decide_closed, decide_half_open, decide_settle};
 use error::Refusal;
 pub use settle::{close, manual_locked, settle_closed, settle_locked, settle_unclosed};
 

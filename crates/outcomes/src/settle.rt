@@ -12,11 +12,11 @@ ghost use Rattle.breaker.specs.Calls.{after, kept};
 ghost use Rattle.steps.specs.Steps.{Holds};
 ghost use Rattle.outcomes.specs.Decide.{changed, Decides, places_after};
 
-use crate::decide::{decide_closed, decide_half_open};
-use crate::{Change, Recorded};
+use crate::Recorded;
+use crate::decide::{concluded, decide_closed, decide_unclosed};
 use breaker::{Breaker, CLOSED, Finished, HALF_OPEN, Settled, Ticket, items_of};
 use history::{Changed, Items};
-use steps::{closed, opened, with_counts, with_history};
+use steps::{closed, with_counts};
 
 // Closes the breaker and empties its list.
 // Ruled out: a run of failures that is kept; a place left as it was.
@@ -88,13 +88,7 @@ pub fn settle_unclosed(
     ensures { sound b list.old ≡ true → (b.shared.state ≡ 0 → ⊥) → (c : Config) (st : State) → Holds c st b list.old
         → after nothing result list.new ≡ kept c (settled (settings c) now_ms t success st) }
 {
-    if t.generation != b.shared.generation {
-        return b;
-    }
-    if b.shared.state != HALF_OPEN {
-        return b;
-    }
-    let next = decide_half_open(b, now_ms, t, success);
+    let next = decide_unclosed(b, now_ms, t, success);
     if next.shared.state == CLOSED {
         let _emptied = history::clear(list, b.shared.len);
         return next;
@@ -120,20 +114,7 @@ pub fn settle_locked(b: Breaker, list: &mut [u64], now_ms: u64, t: Ticket, succe
             breaker: b,
         };
     }
-    match settle_closed(b, list, now_ms, success) {
-        Recorded::Refused(r) => Settled {
-            answer: Finished::Refused(r),
-            breaker: b,
-        },
-        Recorded::Counted(change) => Settled {
-            answer: Finished::Done,
-            breaker: with_history(b, change.run, change.len),
-        },
-        Recorded::Tripped(change) => Settled {
-            answer: Finished::Done,
-            breaker: opened(with_history(b, change.run, change.len), now_ms),
-        },
-    }
+    concluded(b, now_ms, settle_closed(b, list, now_ms, success))
 }
 
 // A manual outcome.

@@ -6,6 +6,7 @@ mod limiter;
 mod pack;
 mod pack_wait;
 mod permits;
+mod previews;
 mod waits;
 
 use breaker::Breaker;
@@ -16,6 +17,7 @@ pub use calls::{
 use crossing::{PlainPending, Told, Waited};
 pub use limiter::{acquire_cost, available, peek, refund, reserve};
 pub use permits::{permit_cancel, permit_dropped, permit_failure, permit_success};
+pub use previews::{preview_abort, preview_settle};
 pub use waits::{wait_drop, wait_run, wait_start, wait_turn};
 
 // The answer of a call, and the record after it.

@@ -63,8 +63,15 @@ fn finish(state: &mut State, probe: u8, settle: u8, mark: u8) -> Told {
     told
 }
 
+/// What was previewed, with the record in the place of the one that was looked at.
+fn previewed(state: &mut State, preview: Preview) -> Told {
+    assert_eq!(preview.len, preview.breaker.shared.len);
+    state.0 = preview.breaker;
+    preview.told
+}
+
 /// Each flag that comes in, one at a time.
-const FLAGS: [(&str, Call); 12] = [
+const FLAGS: [(&str, Call); 16] = [
     ("admit_as via_trait", |s, flag| unsafe {
         pudvirez_admit_as(&mut s.0, s.1.as_mut_ptr(), PLACES, 40, flag)
     }),
@@ -87,6 +94,30 @@ const FLAGS: [(&str, Call); 12] = [
     ("abort_as probe", |s, flag| unsafe {
         let ticket = ticket(s, flag);
         pudvirez_abort_as(&mut s.0, s.1.as_mut_ptr(), PLACES, ticket, 0)
+    }),
+    ("preview_settle success", |s, flag| {
+        let ticket = ticket(s, 0);
+        let list = s.1.as_ptr();
+        let preview = unsafe { pudvirez_preview_settle(&s.0, list, PLACES, 40, ticket, flag) };
+        previewed(s, preview)
+    }),
+    ("preview_settle probe", |s, flag| {
+        let ticket = ticket(s, flag);
+        let list = s.1.as_ptr();
+        let preview = unsafe { pudvirez_preview_settle(&s.0, list, PLACES, 40, ticket, 1) };
+        previewed(s, preview)
+    }),
+    ("preview_abort via_trait", |s, flag| {
+        let ticket = ticket(s, 1);
+        let list = s.1.as_ptr();
+        let preview = unsafe { pudvirez_preview_abort(&s.0, list, PLACES, ticket, flag) };
+        previewed(s, preview)
+    }),
+    ("preview_abort probe", |s, flag| {
+        let ticket = ticket(s, flag);
+        let list = s.1.as_ptr();
+        let preview = unsafe { pudvirez_preview_abort(&s.0, list, PLACES, ticket, 0) };
+        previewed(s, preview)
     }),
     ("permit_cancel probe", |s, flag| unsafe {
         let ticket = ticket(s, flag);

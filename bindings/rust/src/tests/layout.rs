@@ -54,6 +54,7 @@ fn rust_side() -> Vec<String> {
             postponed_after),
         lines!(Told: number, v1, v2, v3),
         lines!(Waited: number, v1, v2, v3, v4, taken),
+        lines!(Preview: told, breaker, len),
     ];
     parts.concat()
 }

@@ -67,9 +67,15 @@ const CHANGES: [(&str, Call); 15] = [
 ];
 
 /// And those that read.
-const READS: [(&str, Call); 4] = [
+const READS: [(&str, Call); 6] = [
     ("still_admits", |b, l, n| unsafe {
         pudvirez_still_admits(b, l, n, 5, TICKET)
+    }),
+    ("preview_settle", |b, l, n| unsafe {
+        pudvirez_preview_settle(b, l, n, 5, TICKET, 0).told
+    }),
+    ("preview_abort", |b, l, n| unsafe {
+        pudvirez_preview_abort(b, l, n, TICKET, 1).told
     }),
     ("peek", |b, l, n| unsafe { pudvirez_peek(b, l, n, 5, 1, 0) }),
     ("available", |b, l, n| unsafe {
@@ -260,6 +266,22 @@ fn a_breaker_that_is_not_sound_is_told_4() {
             assert_eq!(answer, 77);
             told
         });
+    }
+}
+
+/// A refused preview has the record that was handed in, and its length, however great.
+#[test]
+fn a_refused_preview_gives_the_record_back() {
+    let wrong = unsound().into_iter().map(|broken| (4, PLACES, broken));
+    for (number, count, (b, list)) in wrong.chain([(3, PLACES - 1, start())]) {
+        let l = list.as_ptr();
+        let settle = unsafe { pudvirez_preview_settle(&b, l, count, 5, TICKET, 0) };
+        let abort = unsafe { pudvirez_preview_abort(&b, l, count, TICKET, 0) };
+        for preview in [settle, abort] {
+            assert_eq!(preview.told.number, number);
+            assert_eq!(bytes(&preview.breaker), bytes(&b));
+            assert_eq!(preview.len, b.shared.len);
+        }
     }
 }
 

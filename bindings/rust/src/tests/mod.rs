@@ -5,6 +5,7 @@ mod layout;
 mod misuse;
 mod orders;
 mod panics;
+mod previews;
 mod threads;
 mod wait_rows;
 mod waits;

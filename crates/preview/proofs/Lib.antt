@@ -1,0 +1,2 @@
+-- Laws, by what they speak of.
+pub mod Previews
