@@ -1,6 +1,8 @@
 // The breaker's calls, and those of a wait before it, over records that the caller lends: each is thin over its step by value.
 #![tactic(auto)]
 
+mod saving;
+
 ghost use Rattle.std.specs.Prelude.{◌≡◌, true, false};
 ghost use Rattle.breaker.specs.Record.{HalfOpen, sound};
 ghost use Rattle.breaker.specs.Answers.{admission_told, finished_told, tried_told, standing_told, notice_told, decided_told, reserved_told, counted_told};
@@ -18,6 +20,7 @@ use breaker::{
     Admission, Breaker, Counted, Decided, Decision, Finished, Notice, Reservation, Reserved,
     Standing, Ticket, Tried,
 };
+pub use saving::{restore, save};
 use trip::CircuitBreakerBuilder;
 use wait::{Dropped, Observed};
 use waiting::{Awaited, Begun, Pending, Progress};
@@ -128,6 +131,20 @@ pub fn reset(breaker: &mut Breaker, list: &mut [u64]) -> Finished
     ensures { after (finished_told result) breaker.new list.new ≡ on_sound (λ s st. Rules.reset st) breaker.old list.old }
 {
     let s = circuit::reset(*breaker, list);
+    *breaker = s.breaker;
+    s.answer
+}
+
+// Puts new settings in force: a fresh record of the next generation.
+// Ruled out: a generation that starts again at 0; a record of the new settings that is told and not stored.
+pub fn reconfigure(
+    breaker: &mut Breaker,
+    list: &mut [u64],
+    builder: CircuitBreakerBuilder,
+) -> Finished
+    ensures { after (finished_told result) breaker.new list.new ≡ Calls.reconfigured builder breaker.old list.old }
+{
+    let s = circuit::reconfigure(*breaker, list, builder);
     *breaker = s.breaker;
     s.answer
 }
