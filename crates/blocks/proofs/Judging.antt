@@ -13,6 +13,8 @@ use Rattle.error.specs.declared.Refusal.TheVariants.{Damaged, Version}
 use Rattle.error.proofs.Choice.{and_split}
 use Rattle.blocks.specs.declared.Judged.{Judged}
 use Rattle.blocks.specs.declared.Judged.TheVariants.{Passes, Refused}
+use Rattle.blocks.specs.declared.CheckedAs.{CheckedAs}
+use Rattle.blocks.specs.declared.CheckedAs.TheVariants as CheckedIs
 use Rattle.blocks.specs.Block.{may_hold, zeros, index_in, count_in, used_in, summed, versioned, proper, judged_block, used_body}
 use Rattle.blocks.proofs.Blocks.{Reads, may-some, reads-index, reads-count, reads-used}
 
@@ -78,6 +80,22 @@ part_by b j e = ap (part_if_passed (take (used_in b) (drop 8 b))) e ∙ spread (
 pub part-refused : (b : List ℕ) (r : Refusal) → Refused r ≡ judged_block Refused Passes b → [] ≡ used_body b
 part-refused b r e = part_by b (Refused r) e
 
+-- ---- the used length, by what was judged
+abbrev pub checked_by : ℕ → Judged → CheckedAs
+checked_by u Passes = CheckedIs.Passes u
+checked_by u (Refused r) = CheckedIs.Refused r
+
+pub checked-as : (b : List ℕ) (j : Judged) → j ≡ judged_block Refused Passes b → checked_by (used_in b) j ≡ judged_block CheckedIs.Refused (CheckedIs.Passes (used_in b)) b
+checked-as b j e = ap (checked_by (used_in b)) e ∙ spread (not (eqb (length b) 512 && summed b)) (not (versioned b)) (not (proper b))
+  where
+    spread : (x y z : Bool) → checked_by (used_in b) (if x then Refused Damaged else if y then Refused Version else if z then Refused Damaged else Passes)
+        ≡ (if x then CheckedIs.Refused Damaged else if y then CheckedIs.Refused Version else if z then CheckedIs.Refused Damaged else CheckedIs.Passes (used_in b))
+    spread true y z = refl
+    spread false true z = refl
+    spread false false true = refl
+    spread false false false = refl
+
+-- ---- where it passes
 abbrev does_pass : Judged → Bool
 does_pass Passes = true
 does_pass (Refused r) = false

@@ -5,3 +5,4 @@ pub mod Every
 pub mod Runs
 pub mod Unique
 pub mod Joins
+pub mod OneToOne

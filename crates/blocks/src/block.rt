@@ -3,8 +3,9 @@ ghost use Rattle.std.specs.Prelude.{◌≡◌, true, ◌+◌, ◌≤◌, length,
 ghost use Rattle.le_bytes.specs.Bytes.{number};
 ghost use Rattle.blocks.specs.Block.{block, judged_block, known, may_hold, proper, summed, sum_from, used_body, used_in, versioned, zeros};
 ghost use Rattle.blocks.specs.declared.Judged.TheVariants.{Passes, Refused};
+ghost use Rattle.blocks.specs.declared.CheckedAs.TheVariants as CheckedIs;
 
-use crate::{BLOCK, BODY, BODY_AT, Judged, SUM_AT, SUM_OVER};
+use crate::{BLOCK, BODY, BODY_AT, CheckedAs, Judged, SUM_AT, SUM_OVER};
 use error::Refusal;
 use le_bytes::{copy, number_at, put_number, zero};
 
@@ -135,4 +136,15 @@ pub fn check(b: &[u8]) -> &[u8]
     }
     let end = BODY_AT + number_at(b, 6, 2) as usize;
     &b[BODY_AT..end]
+}
+
+// What the check meets, as `judge`, with the used length where nothing is met.
+// Ruled out: the count of the run told as the length; a length told of a block whose sum is wrong.
+pub fn checked(b: &[u8]) -> CheckedAs
+    ensures { result ≡ judged_block CheckedIs.Refused (CheckedIs.Passes (used_in b.now)) b.now }
+{
+    match judge(b) {
+        Judged::Refused(r) => CheckedAs::Refused(r),
+        Judged::Passes => CheckedAs::Passes(field(b, 6, 2) as usize),
+    }
 }

@@ -5,7 +5,7 @@ mod block;
 mod passes;
 mod run;
 
-pub use block::{check, judge};
+pub use block::{check, checked, judge};
 use error::Refusal;
 pub use passes::{all_summed, all_versioned};
 pub use run::{count_of, join, run_at, write_run};
@@ -16,7 +16,7 @@ pub const BLOCK: usize = 512;
 pub const BODY: usize = 496;
 
 // Where the body starts, where the zeros behind it end, and where the sum's bytes end.
-const BODY_AT: usize = 8;
+pub const BODY_AT: usize = 8;
 
 const SUM_OVER: usize = 504;
 
@@ -31,6 +31,13 @@ const LONGEST_BODY: usize = 63488;
 #[derive(Clone, Copy)]
 pub enum Judged {
     Passes,
+    Refused(Refusal),
+}
+
+// The same, with the used length of a block that passes.
+#[derive(Clone, Copy)]
+pub enum CheckedAs {
+    Passes(usize),
     Refused(Refusal),
 }
 

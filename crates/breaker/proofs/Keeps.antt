@@ -1,6 +1,6 @@
 -- Sound in, sound out: every rule takes a sound breaker to a sound one, and a refused finishing call leaves it as it was. Assumes nothing.
 --     sound-counts, sound-history, sound-moved         one law for each kind of change to a state
---     sound-opening, sound-closing, sound-half_opening  the transitions
+--     sound-opening, sound-closing, sound-half_opening, sound-returned  the transitions
 --     sound-recorded, sound-recorded-good              the policy's list after a failure that has room, and after a success
 --     sound-settled, sound-aborted, sound-sequence, sound-admit_as, ..       the rules, and the entry points as `Keeps rule`
 --     refused-unchanged, refused-manual                a call that is refused
@@ -29,9 +29,9 @@ use Rattle.breaker.specs.declared.Decision.{Decision}
 use Rattle.breaker.specs.declared.Decision.TheVariants.{Acquired, Retry, Impossible}
 use Rattle.breaker.specs.declared.Reservation.{Reservation}
 use Rattle.breaker.specs.Record.{Settings, State, Closed, HalfOpen, Open, settings, state, fields, stored, sound_policy, sound_config, items_for, items_of, sound}
-use Rattle.breaker.specs.Rules.{Outcome, outcome, with_counts, with_history, moved, no_counts, one_more_trial, one_more_trait_probe, less_counts, counting, opening, closing, half_opening, recorded, no_room, Call, success, failure, abort, trait_abort, probes, in_half_open, in_closed, settled, aborted, finish, ticket_of, released, manual, Admitted, granted, shed, admit, noted, via_trait, admit_as, reset}
+use Rattle.breaker.specs.Rules.{Outcome, outcome, with_counts, with_history, moved, no_counts, one_more_trial, one_more_trait_probe, less_counts, counting, opening, closing, half_opening, returned, recorded, no_room, Call, success, failure, abort, trait_abort, probes, in_half_open, in_closed, settled, aborted, finish, ticket_of, released, manual, Admitted, granted, shed, admit, noted, via_trait, admit_as, reset}
 use Rattle.breaker.specs.Answers.{is_acquired}
-use Rattle.breaker.specs.Calls.{fresh, answered, admission, try_inner, try_admit, cancel, decided, reserved, handed_on, acquire_inner, acquire_cost, is_reserved, reserve_inner, reserve, refund}
+use Rattle.breaker.specs.Calls.{fresh, fresh_at, answered, admission, try_inner, try_admit, cancel, decided, reserved, handed_on, acquire_inner, acquire_cost, is_reserved, reserve_inner, reserve, refund}
 use Rattle.breaker.specs.Orders.{sequence}
 use Rattle.breaker.proofs.Cases.{probe-cases, admit-cases, failing, settled-cases, failure-cases, aborted-cases}
 use Rattle.breaker.proofs.Record.{SoundShared, Sound, config→, shared→, →shared, sound→, →sound, stored-state, padded-state}
@@ -63,6 +63,10 @@ sound_empty c g = clear-sound (items_of c) (empty-fits c (config→ c g).policy)
 -- a new breaker
 pub sound-fresh : (c : Config) → sound_config c ≡ true → SoundAt c fresh
 sound-fresh c g = sound-at c fresh g (record { code = omega arith; inflight = omega arith; successes = (config→ c g).some; idle = inr (refl, refl, refl) }) (sound_empty c g)
+
+-- and of any generation
+pub sound-fresh_at : (c : Config) (generation : ℕ) → sound_config c ≡ true → SoundAt c (fresh_at generation)
+sound-fresh_at c generation g = sound-at c (fresh_at generation) g (record { code = omega arith; inflight = omega arith; successes = (config→ c g).some; idle = inr (refl, refl, refl) }) (sound_empty c g)
 
 -- what is stored of a sound record's state is sound
 pub sound-state : (b : Breaker) (s : List ℕ) → sound b s ≡ true → SoundAt b.config (state b s)
@@ -105,6 +109,13 @@ module _ (c : Config) (st : State) (ok : SoundAt c st) where
   sound-half_opening =
       let g = config→ c (whole c st ok).config in
       sound-counts c (moved HalfOpen st.open_until (with_counts no_counts st)) (sound-moved c st ok HalfOpen st.open_until (omega arith)) (one_more_trial no_counts) refl (omega (arith, g.some, g.most)) g.some
+
+  -- coming back: nothing is out, which fits every state
+  pub sound-returned : (present : ℕ) → SoundAt c (returned present st)
+  sound-returned present =
+      let h = shared c st ok in
+      sound-at c (returned present st) (whole c st ok).config
+      (record { code = h.code; inflight = omega arith; successes = h.successes; idle = ⊎_elim inl (λ i. inr (refl, refl, i.2)) h.idle }) (whole c st ok).list
 
 -- ---- what the policy records
 

@@ -2,6 +2,7 @@
 pub mod Record
 pub mod Tests
 pub mod Generations
+pub mod Transitions
 pub mod Cases
 pub mod Finishes
 pub mod Keeps

@@ -26,7 +26,7 @@ use Rattle.breaker.specs.declared.Reserved.TheVariants as ReservedIs
 use Rattle.breaker.specs.declared.Counted.TheVariants.{Count}
 use Rattle.breaker.specs.Record.{Settings, State, Closed, settings, state, stored, sound}
 use Rattle.breaker.specs.Answers.{delay_of, is_acquired, admission_told, tried_told, standing_told, notice_told, decided_told, reserved_told, counted_told}
-use Rattle.breaker.specs.Rules.{Outcome, outcome, done, no_counts, Admitted, granted, shed, admit, admit_as, settled, aborted, released, Verdict, admits, refuses, still_admits}
+use Rattle.breaker.specs.Rules.{Outcome, outcome, done, next, no_counts, Admitted, granted, shed, admit, admit_as, settled, aborted, released, Verdict, admits, refuses, still_admits}
 
 -- ---- what a call leaves: what it told, the record, and every place
 
@@ -63,12 +63,25 @@ asked rule b s = guarded refused (rule (settings b.config) (state b s)) b s
 abbrev pub fresh : State
 fresh = record { state = Closed; generation = 0; run = 0; counts = no_counts; open_until = 0; list = [] }
 
+-- the same of another generation
+abbrev pub fresh_at : ℕ → State
+fresh_at generation = record { state = Closed; generation = generation; run = 0; counts = no_counts; open_until = 0; list = [] }
+
 abbrev pub put : Built → Breaker → List ℕ → After
 put (Made c) b s = kept c (done fresh)
 put (Refused r) b s = after (refused r) b s
 
 unfoldable pub built : CircuitBreakerBuilder → Breaker → List ℕ → After
 built builder b s = if not (eqb (length s) 4096) then after (refused Storage) b s else put (built_of builder) b s
+
+-- ---- W-201: "New settings go into force as a fresh record whose generation is one past the present one": 3, 4, then what the builder refuses
+
+abbrev pub renewed : Built → Breaker → List ℕ → After
+renewed (Made c) b s = kept c (done (fresh_at (next b.shared.generation)))
+renewed (Refused r) b s = after (refused r) b s
+
+unfoldable pub reconfigured : CircuitBreakerBuilder → Breaker → List ℕ → After
+reconfigured builder b s = guarded (λ r. after (refused r) b s) (renewed (built_of builder) b s) b s
 
 -- ---- admission
 

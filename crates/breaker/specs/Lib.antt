@@ -3,5 +3,6 @@ pub mod Record
 pub mod Answers
 pub mod Rules
 pub mod Calls
+pub mod Transitions
 pub mod Orders
 pub mod Batch

@@ -104,6 +104,23 @@ closing st = moved Closed st.open_until (with_history 0 [] (with_counts no_count
 abbrev pub half_opening : State → State
 half_opening st = moved HalfOpen st.open_until (with_counts (one_more_trial no_counts) st)
 
+-- W-201: "Coming back puts in force all that was saved, except that the generation becomes one past the present one, and inflight and trait
+-- probes are 0."
+abbrev pub returned : ℕ → State → State
+returned present st =
+    record {
+      state = st.state;
+      generation = next present;
+      run = st.run;
+      counts = record { inflight = 0; trait_probes = 0; successes = st.counts.successes };
+      open_until = st.open_until;
+      list = st.list;
+    }
+
+-- the same state in another generation
+abbrev pub in_generation : ℕ → State → State
+in_generation g st = record { state = st.state; generation = g; run = st.run; counts = st.counts; open_until = st.open_until; list = st.list }
+
 -- ---- "Admission."
 
 -- what it comes to: a ticket with the state after it, or a delay in milliseconds

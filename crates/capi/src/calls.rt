@@ -7,7 +7,7 @@ ghost use Rattle.breaker.specs.Calls as Calls;
 ghost use Rattle.breaker.specs.Calls.{on_sound, asked};
 ghost use Rattle.breaker.specs.Orders.{FinishingOrders};
 ghost use Rattle.breaker.specs.Batch.{slices, finished_all};
-ghost use Rattle.crossing.specs.Crossing.{packed, crossing, crossed, crossings, crossed_all, ticket_by, is_reply, decision_by, on_reply, built_by};
+ghost use Rattle.crossing.specs.Crossing.{packed, crossing, crossed, crossings, crossed_all, ticket_by, is_reply, decision_by, on_reply, built_by, reconfigured_by};
 
 use breaker::Breaker;
 use crossing::{PlainTicket, Setting, Told};
@@ -20,6 +20,21 @@ pub extern "C" fn pudvirez_build(breaker: &mut Breaker, list: &mut [u64], settin
     ensures { crossing result breaker.new list.new ≡ crossed (built_by setting breaker.old list.old) }
 {
     let s = plain::build(*breaker, list, setting);
+    *breaker = s.breaker;
+    s.answer
+}
+
+// Puts new settings in force: a fresh record of the next generation. An unknown policy kind is told 4, after 3 and before 1 and 2.
+// Ruled out: a generation that starts again at 0; a refused setting that empties the storage.
+#[unsafe(no_mangle)]
+pub extern "C" fn pudvirez_reconfigure(
+    breaker: &mut Breaker,
+    list: &mut [u64],
+    setting: Setting,
+) -> Told
+    ensures { crossing result breaker.new list.new ≡ crossed (reconfigured_by setting breaker.old list.old) }
+{
+    let s = plain::reconfigure(*breaker, list, setting);
     *breaker = s.breaker;
     s.answer
 }

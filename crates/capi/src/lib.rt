@@ -7,12 +7,13 @@ mod calls;
 mod limiter;
 mod permits;
 mod previews;
+mod saving;
 mod waits;
 
 pub use calls::{
     pudvirez_abort_as, pudvirez_admit_as, pudvirez_board, pudvirez_build, pudvirez_finish_all,
-    pudvirez_is_sound, pudvirez_record_manual, pudvirez_release_trait_probe, pudvirez_reset,
-    pudvirez_settle, pudvirez_still_admits, pudvirez_try_admit,
+    pudvirez_is_sound, pudvirez_reconfigure, pudvirez_record_manual, pudvirez_release_trait_probe,
+    pudvirez_reset, pudvirez_settle, pudvirez_still_admits, pudvirez_try_admit,
 };
 pub use limiter::{
     pudvirez_acquire_cost, pudvirez_available, pudvirez_peek, pudvirez_refund, pudvirez_reserve,
@@ -22,4 +23,5 @@ pub use permits::{
     pudvirez_permit_success,
 };
 pub use previews::{pudvirez_preview_abort, pudvirez_preview_settle};
+pub use saving::{pudvirez_check_block, pudvirez_restore, pudvirez_save};
 pub use waits::{pudvirez_wait_drop, pudvirez_wait_run, pudvirez_wait_start, pudvirez_wait_turn};

@@ -1,15 +1,17 @@
 // What came of an admission: outcomes, aborts and resets, and the board figure. Each call tests the breaker first, and a refused one leaves all
 // as it was.
-ghost use Rattle.std.specs.Prelude.{◌≡◌};
+ghost use Rattle.std.specs.Prelude.{◌≡◌, length};
+ghost use Rattle.trip.specs.Settings.{built_of};
 ghost use Rattle.breaker.specs.Answers.{finished_told, counted_told};
 ghost use Rattle.breaker.specs.Calls as Calls;
 ghost use Rattle.breaker.specs.Calls.{after, on_sound, asked};
 ghost use Rattle.breaker.specs.Rules as Rules;
 
-use breaker::{Breaker, Counted, Finished, Settled, Tested, Ticket, items_of, test};
+use breaker::{Breaker, Counted, Finished, Settled, Tested, Ticket, build, items_of, test};
 use history::Items;
 use outcomes::{close, manual_locked, settle_locked};
-use steps::{abort_locked, release_locked};
+use steps::{abort_locked, release_locked, renewed};
+use trip::CircuitBreakerBuilder;
 
 // Reports the outcome of a call with its ticket.
 // Ruled out: one that ignores its ticket; a success that keeps the run when it closes.
@@ -95,6 +97,35 @@ pub fn reset(breaker: Breaker, list: &mut [u64]) -> Settled
             answer: Finished::Done,
             breaker: close(breaker, list),
         },
+    }
+}
+
+fn renew(breaker: Breaker, list: &mut [u64], builder: CircuitBreakerBuilder) -> Settled
+    ensures { length list.old ≡ 4096
+        → after (finished_told result.answer) result.breaker list.new ≡ Calls.renewed (built_of builder) breaker list.old }
+{
+    let built = build(breaker, list, builder);
+    let answer = built.answer;
+    match answer {
+        Finished::Refused(_) => built,
+        Finished::Done => Settled {
+            answer,
+            breaker: renewed(built.breaker, breaker.shared.generation),
+        },
+    }
+}
+
+// Puts new settings in force: a fresh record of the next generation.
+// Ruled out: a generation that starts again at 0; a list kept from the old settings.
+pub fn reconfigure(breaker: Breaker, list: &mut [u64], builder: CircuitBreakerBuilder) -> Settled
+    ensures { after (finished_told result.answer) result.breaker list.new ≡ Calls.reconfigured builder breaker list.old }
+{
+    match test(breaker, list) {
+        Tested::Refused(r) => Settled {
+            answer: Finished::Refused(r),
+            breaker,
+        },
+        Tested::Sound => renew(breaker, list, builder),
     }
 }
 

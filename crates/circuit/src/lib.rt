@@ -5,5 +5,5 @@
 mod calls;
 mod permits;
 
-pub use calls::{abort_as, board, record_manual, release_trait_probe, reset, settle};
+pub use calls::{abort_as, board, reconfigure, record_manual, release_trait_probe, reset, settle};
 pub use permits::{permit_cancel, permit_dropped, permit_failure, permit_success};

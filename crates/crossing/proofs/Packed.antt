@@ -8,6 +8,9 @@ use Rattle.std.proofs.Common.{if◌then◌else◌}
 use Rattle.error.specs.Told.{Told as Answer, tell, number_of, refused}
 use Rattle.error.specs.declared.Refusal.{Refusal}
 use Rattle.error.specs.declared.Refusal.TheVariants.{Time, Limit, Storage, Unsound, Full, Turn, Damaged, Version, Name}
+use Rattle.blocks.specs.declared.CheckedAs.{CheckedAs}
+use Rattle.blocks.specs.declared.CheckedAs.TheVariants as CheckedIs
+use Rattle.blocks.specs.Block.{judged_told}
 use Rattle.breaker.specs.declared.Admission.{Admission}
 use Rattle.breaker.specs.declared.Admission.TheVariants as AdmissionIs
 use Rattle.breaker.specs.declared.Finished.{Finished}
@@ -27,6 +30,9 @@ use Rattle.breaker.specs.declared.Reserved.TheVariants as ReservedIs
 use Rattle.breaker.specs.declared.Counted.{Counted}
 use Rattle.breaker.specs.declared.Counted.TheVariants as CountedIs
 use Rattle.breaker.specs.Answers.{admission_told, finished_told, tried_told, standing_told, notice_told, decided_told, reserved_told, counted_told}
+use Rattle.checkpoints.specs.declared.Saving.{Saving}
+use Rattle.checkpoints.specs.declared.Saving.TheVariants as SavingIs
+use Rattle.checkpoints.specs.Calls.{saving_told}
 use Rattle.crossing.specs.declared.Told.{Told}
 use Rattle.crossing.specs.Crossing.{packed}
 
@@ -53,13 +59,17 @@ delay_width n v = if eqb n 6 then 1 else 0
 abbrev pub count_width : ℕ → ℕ → ℕ
 count_width n v = if eqb n 0 then 1 else 0
 
+-- a place and a length
+abbrev pub part_width : ℕ → ℕ → ℕ
+part_width n v = if eqb n 0 then 2 else 0
+
 -- kind 2 has a delay for a decision, and kind 1 for a reservation
 abbrev pub kind_width : ℕ → ℕ → ℕ → ℕ
 kind_width delayed n v =
     if eqb n 0 then (if eqb v delayed then 2 else 1)
     else 0
 
--- ---- the eight answers
+-- ---- the ten answers
 
 -- a reading of the number alone that is right for each refusal is right for all
 abbrev Right : (ℕ → Answer) → ℕ → Type 0
@@ -117,3 +127,11 @@ reserved-back (ReservedIs.Refused r) = refused-back (λ n. restored (kind_width 
 pub counted_back : (a : Counted) → restored count_width (packed (counted_told a)) ≡ counted_told a
 counted_back (CountedIs.Count n) = refl
 counted_back (CountedIs.Refused r) = refused-back (λ n. restored count_width (packed (tell n []))) r refl refl refl refl refl refl refl refl refl
+
+pub saving-back : (a : Saving) → restored count_width (packed (saving_told a)) ≡ saving_told a
+saving-back (SavingIs.Saved used) = refl
+saving-back (SavingIs.Refused r) = refused-back (λ n. restored count_width (packed (tell n []))) r refl refl refl refl refl refl refl refl refl
+
+pub judged-back : (a : CheckedAs) → restored part_width (packed (judged_told a)) ≡ judged_told a
+judged-back (CheckedIs.Passes used) = refl
+judged-back (CheckedIs.Refused r) = refused-back (λ n. restored part_width (packed (tell n []))) r refl refl refl refl refl refl refl refl refl

@@ -15,8 +15,9 @@ use Rattle.breaker.specs.declared.Reservation.TheVariants.{Wait, Nothing}
 use Rattle.breaker.specs.Record.{Settings, State}
 use Rattle.breaker.specs.Answers.{delay_of}
 use Rattle.breaker.specs.Rules.{Outcome}
-use Rattle.breaker.specs.Calls.{After, after, guarded, on_sound, asked, built}
+use Rattle.breaker.specs.Calls.{After, after, guarded, on_sound, asked, built, reconfigured}
 use Rattle.breaker.specs.Batch.{Batch}
+use Rattle.checkpoints.specs.Calls.{SaveAfter}
 use Rattle.crossing.specs.declared.Told.{Told}
 use Rattle.preview.specs.Preview.{Preview}
 use Rattle.crossing.specs.declared.PlainPreview.{PlainPreview}
@@ -40,6 +41,17 @@ crossing t b s = record { told = t; breaker = b; places = s }
 
 unfoldable pub crossed : After → Crossing
 crossed a = crossing (packed a.told) a.breaker a.places
+
+-- what a save leaves: what it told, and every byte of the buffer
+pub record CrossingSave : Type 0 where
+  pub told : Told
+  pub buffer : List ℕ
+
+abbrev pub crossing_save : Told → List ℕ → CrossingSave
+crossing_save t buffer = record { told = t; buffer = buffer }
+
+unfoldable pub crossed_save : SaveAfter → CrossingSave
+crossed_save a = crossing_save (packed a.told) a.buffer
 
 -- what a batch leaves: as any call, and the number told to each call of the sequence
 pub record Crossings : Type 0 where
@@ -122,4 +134,10 @@ unknown_policy s = if not (eqb (length s) 4096) then refused Storage else refuse
 unfoldable pub built_by : Setting → Breaker → List ℕ → After
 built_by x b s =
     if is_policy x.kind then built (builder_by x) b s
+    else after (unknown_policy s) b s
+
+-- new settings: the same
+unfoldable pub reconfigured_by : Setting → Breaker → List ℕ → After
+reconfigured_by x b s =
+    if is_policy x.kind then reconfigured (builder_by x) b s
     else after (unknown_policy s) b s

@@ -12,8 +12,8 @@ use breaker::Breaker;
 pub use reply::{decision_by, is_reply, is_reservable, reservation_by, tell_unknown};
 pub use settings::{builder_by, is_policy, tell_unknown_policy};
 pub use tell::{
-    tell_admission, tell_counted, tell_decided, tell_finished, tell_notice, tell_reserved,
-    tell_standing, tell_tried,
+    tell_admission, tell_counted, tell_decided, tell_finished, tell_judged, tell_notice,
+    tell_reserved, tell_saving, tell_standing, tell_tried,
 };
 pub use tell_wait::{tell_awaited, tell_begun, tell_course, tell_dropped};
 pub use ticket::{after_start, after_turn, pending_by, ticket_by};

@@ -1,7 +1,9 @@
 // Each answer as plain numbers: document 01's number, and its values with zeros for those it has not.
 ghost use Rattle.std.specs.Prelude.{◌≡◌};
 ghost use Rattle.error.specs.Told.{refused};
+ghost use Rattle.blocks.specs.Block.{judged_told};
 ghost use Rattle.breaker.specs.Answers.{admission_told, finished_told, tried_told, standing_told, notice_told, decided_told, reserved_told, counted_told};
+ghost use Rattle.checkpoints.specs.Calls.{saving_told};
 ghost use Rattle.crossing.specs.Crossing.{packed};
 
 use crate::Told;
@@ -10,9 +12,11 @@ use crate::codes::{
     TOLD_IMPOSSIBLE, TOLD_RETRY, TOLD_SHED,
 };
 use crate::ticket::flag;
+use blocks::{BODY_AT, CheckedAs};
 use breaker::{
     Admission, Counted, Decided, Decision, Finished, Notice, Reservation, Reserved, Standing, Tried,
 };
+use checkpoints::Saving;
 use error::Refusal;
 
 pub(crate) fn tell_refusal(refusal: Refusal) -> Told
@@ -215,5 +219,37 @@ pub fn tell_counted(answer: Counted) -> Told
             v3: 0,
         },
         Counted::Refused(r) => tell_refusal(r),
+    }
+}
+
+// A save: 0 with the used length after it.
+// Ruled out: the used length before it; a refusal told with a length.
+pub fn tell_saving(answer: Saving) -> Told
+    ensures { result ≡ packed (saving_told answer) }
+{
+    match answer {
+        Saving::Saved(used) => Told {
+            number: 0,
+            v1: used as u64,
+            v2: 0,
+            v3: 0,
+        },
+        Saving::Refused(r) => tell_refusal(r),
+    }
+}
+
+// The check of a block: 0 with where its used body begins and how long it is.
+// Ruled out: place and length swapped; 14 told as 13.
+pub fn tell_judged(answer: CheckedAs) -> Told
+    ensures { result ≡ packed (judged_told answer) }
+{
+    match answer {
+        CheckedAs::Passes(used) => Told {
+            number: 0,
+            v1: BODY_AT as u64,
+            v2: used as u64,
+            v3: 0,
+        },
+        CheckedAs::Refused(r) => tell_refusal(r),
     }
 }

@@ -2,6 +2,7 @@
 #![tactic(auto)]
 
 mod previews;
+mod saving;
 
 ghost use Rattle.std.specs.Prelude.{◌≡◌, true, false};
 ghost use Rattle.breaker.specs.Record.{HalfOpen, sound};
@@ -21,6 +22,7 @@ use breaker::{
     Standing, Ticket, Tried,
 };
 pub use previews::{preview_abort, preview_settle};
+pub use saving::{restore, save};
 use trip::CircuitBreakerBuilder;
 use wait::{Dropped, Observed};
 use waiting::{Awaited, Begun, Pending, Progress};
@@ -131,6 +133,20 @@ pub fn reset(breaker: &mut Breaker, list: &mut [u64]) -> Finished
     ensures { after (finished_told result) breaker.new list.new ≡ on_sound (λ s st. Rules.reset st) breaker.old list.old }
 {
     let s = circuit::reset(*breaker, list);
+    *breaker = s.breaker;
+    s.answer
+}
+
+// Puts new settings in force: a fresh record of the next generation.
+// Ruled out: a generation that starts again at 0; a record of the new settings that is told and not stored.
+pub fn reconfigure(
+    breaker: &mut Breaker,
+    list: &mut [u64],
+    builder: CircuitBreakerBuilder,
+) -> Finished
+    ensures { after (finished_told result) breaker.new list.new ≡ Calls.reconfigured builder breaker.old list.old }
+{
+    let s = circuit::reconfigure(*breaker, list, builder);
     *breaker = s.breaker;
     s.answer
 }

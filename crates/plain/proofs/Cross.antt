@@ -8,8 +8,9 @@ use Rattle.error.specs.declared.Refusal.TheVariants.{Turn}
 use Rattle.breaker.specs.declared.Breaker.{Breaker}
 use Rattle.breaker.specs.Record.{Settings, State}
 use Rattle.breaker.specs.Rules.{Outcome}
-use Rattle.breaker.specs.Calls.{After, after, guarded, on_sound, asked, built}
+use Rattle.breaker.specs.Calls.{After, after, guarded, on_sound, asked, built, reconfigured}
 use Rattle.breaker.specs.Batch.{Batch, batch}
+use Rattle.checkpoints.specs.Calls.{SaveAfter, save_after}
 use Rattle.waiting.specs.declared.Pending.{Pending}
 use Rattle.waiting.specs.Calls as Waits
 use Rattle.crossing.specs.declared.Told.{Told}
@@ -17,7 +18,7 @@ use Rattle.crossing.specs.declared.Setting.{Setting}
 use Rattle.crossing.specs.declared.PlainPending.{PlainPending}
 use Rattle.plain.specs.declared.Step.{Step}
 use Rattle.plain.specs.declared.WaitStep.{WaitStep}
-use Rattle.crossing.specs.Crossing.{packed, crossing, crossed, crossings, crossed_all, is_policy, on_reply, asked_reply, builder_by, unknown_policy, built_by}
+use Rattle.crossing.specs.Crossing.{packed, crossing, crossed, crossing_save, crossed_save, crossings, crossed_all, is_policy, on_reply, asked_reply, builder_by, unknown_policy, built_by, reconfigured_by}
 use Rattle.crossing.specs.Waits.{CrossingWait, crossing_wait, after_start, after_turn, crossed_start, crossed_turn, crossed_run}
 use Rattle.plain.specs.Steps.{stepped, wait_stepped}
 
@@ -34,6 +35,10 @@ module _ (r : Step) (t : Answer) (b : Breaker) (s : List ℕ) (e : r ≡ stepped
 pub cross-told : (r : Told) (t : Answer) (b : Breaker) (s : List ℕ) → r ≡ packed t → (a : After) → after t b s ≡ a → crossing r b s ≡ crossed a
 unfolding crossed
 cross-told r t b s e a q = ap (λ (x : Told). crossing x b s) e ∙ ap crossed q
+
+pub cross-save : (r : Told) (t : Answer) (buffer : List ℕ) → r ≡ packed t → (a : SaveAfter) → save_after t buffer ≡ a → crossing_save r buffer ≡ crossed_save a
+unfolding crossed_save
+cross-save r t buffer e a q = ap (λ (x : Told). crossing_save x buffer) e ∙ ap crossed_save q
 
 module _ (r : WaitStep) (t : Answer) (b : Breaker) (s : List ℕ) (p : Pending) (handed : PlainPending) where
   abbrev left : WaitStep → CrossingWait
@@ -76,3 +81,11 @@ module _ (x : Setting) (b : Breaker) (s : List ℕ) where
   pub unknown-built : is_policy x.kind ≡ false → after (unknown_policy s) b s ≡ built_by x b s
   unfolding built_by
   unknown-built e = simp e
+
+  pub known-reconfigured : is_policy x.kind ≡ true → reconfigured (builder_by x) b s ≡ reconfigured_by x b s
+  unfolding reconfigured_by
+  known-reconfigured e = simp e
+
+  pub unknown-reconfigured : is_policy x.kind ≡ false → after (unknown_policy s) b s ≡ reconfigured_by x b s
+  unfolding reconfigured_by
+  unknown-reconfigured e = simp e

@@ -7,7 +7,7 @@ ghost use Rattle.breaker.specs.Calls as Calls;
 ghost use Rattle.breaker.specs.Calls.{on_sound, asked};
 ghost use Rattle.breaker.specs.Orders.{FinishingOrders};
 ghost use Rattle.breaker.specs.Batch.{slices, finished_all};
-ghost use Rattle.crossing.specs.Crossing.{packed, crossing, crossed, crossings, crossed_all, ticket_by, is_reply, decision_by, on_reply, built_by};
+ghost use Rattle.crossing.specs.Crossing.{packed, crossing, crossed, crossings, crossed_all, ticket_by, is_reply, decision_by, on_reply, built_by, reconfigured_by};
 
 use crate::Step;
 use crate::pack::{pack_admitted, pack_settled, pack_tried};
@@ -30,6 +30,21 @@ pub fn build(breaker: Breaker, list: &mut [u64], setting: Setting) -> Step
     }
     let builder = builder_by(setting);
     pack_settled(breaker::build(breaker, list, builder))
+}
+
+// Puts new settings in force: a fresh record of the next generation. An unknown policy kind is told 4, after 3 and before 1 and 2.
+// Ruled out: a generation that starts again at 0; an unknown kind handed to the builder.
+pub fn reconfigure(breaker: Breaker, list: &mut [u64], setting: Setting) -> Step
+    ensures { crossing result.answer result.breaker list.new ≡ crossed (reconfigured_by setting breaker list.old) }
+{
+    if !is_policy(setting.kind) {
+        return Step {
+            answer: tell_unknown_policy(list),
+            breaker,
+        };
+    }
+    let builder = builder_by(setting);
+    pack_settled(circuit::reconfigure(breaker, list, builder))
 }
 
 // Admits a call, through the trait side or not.

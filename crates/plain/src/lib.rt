@@ -7,17 +7,19 @@ mod pack;
 mod pack_wait;
 mod permits;
 mod previews;
+mod saving;
 mod waits;
 
 use breaker::Breaker;
 pub use calls::{
-    abort_as, admit_as, board, build, finish_all, record_manual, release_trait_probe, reset,
-    settle, still_admits, try_admit,
+    abort_as, admit_as, board, build, finish_all, reconfigure, record_manual, release_trait_probe,
+    reset, settle, still_admits, try_admit,
 };
 use crossing::{PlainPending, Told, Waited};
 pub use limiter::{acquire_cost, available, peek, refund, reserve};
 pub use permits::{permit_cancel, permit_dropped, permit_failure, permit_success};
 pub use previews::{preview_abort, preview_settle};
+pub use saving::{check_block, restore, save};
 pub use waits::{wait_drop, wait_run, wait_start, wait_turn};
 
 // The answer of a call, and the record after it.

@@ -10,7 +10,9 @@ mod update;
 pub use admit::{admit_as_locked, admit_locked, still_admits_locked};
 pub use back::{abort_locked, release_locked};
 use breaker::{Breaker, Delay, Ticket};
-pub use update::{closed, one_less, one_more, opened, transition, with_counts, with_history};
+pub use update::{
+    closed, one_less, one_more, opened, renewed, returned, transition, with_counts, with_history,
+};
 
 // What an admission comes to: its ticket and the record after it, or the delay.
 #[derive(Clone, Copy)]

@@ -3,7 +3,8 @@
 ghost use Rattle.std.specs.Prelude.{◌≡◌, ℕ, ◌+◌, ◌-◌, ◌^◌, min, List, length};
 ghost use Rattle.trip.specs.declared.Config.{Config};
 ghost use Rattle.breaker.specs.Record.{State, settings, stored};
-ghost use Rattle.breaker.specs.Rules.{next, with_counts, with_history, moved, opening, closing};
+ghost use Rattle.breaker.specs.Rules as Rules;
+ghost use Rattle.breaker.specs.Rules.{next, with_counts, with_history, moved, opening, closing, in_generation};
 
 use breaker::{Breaker, CLOSED, Counts, OPEN, no_counts};
 
@@ -88,4 +89,26 @@ pub fn closed(b: Breaker) -> Breaker
     let until = b.shared.open_until;
     let idle = with_counts(b, no_counts());
     transition(with_history(idle, 0, 0), CLOSED, until)
+}
+
+// A saved record put in force over a present generation.
+// Ruled out: one past the saved generation; trials that are still out.
+pub fn returned(mut saved: Breaker, present: u64) -> Breaker
+    ensures { (c : Config) (st : State) → saved ≡ stored c st → result ≡ stored c (Rules.returned present st) }
+{
+    let generation = next_generation(present);
+    saved.shared.generation = generation;
+    saved.shared.counts.inflight = 0;
+    saved.shared.counts.trait_probes = 0;
+    saved
+}
+
+// A record put in force over a present generation.
+// Ruled out: a generation that starts again at 0; one that does not wrap.
+pub fn renewed(mut b: Breaker, present: u64) -> Breaker
+    ensures { (c : Config) (st : State) → b ≡ stored c st → result ≡ stored c (in_generation (next present) st) }
+{
+    let generation = next_generation(present);
+    b.shared.generation = generation;
+    b
 }

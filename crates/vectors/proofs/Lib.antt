@@ -1,0 +1,2 @@
+-- The structs that the proofs of the lending functions name.
+pub mod Built
