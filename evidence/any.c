@@ -757,26 +757,6 @@ static Both call_on_pages(void)
     return both;
 }
 
-static Both call(void)
-{
-    const bool tickets = has_flag[f][MARK] || has_flag[f][PROBE];
-    return f == FINISH_ALL ? finish_all() : f >= WAIT_START && f <= WAIT_DROP ? wait_call() : tickets ? ticket_call() : other_call();
-}
-
-/* A call, on pages that it can only read if that is all it may do. */
-static Both call_on_pages(void)
-{
-    const bool reads = use_guarded && f >= STILL_ADMITS;
-    if (!reads)
-        return call();
-    protect(b, sizeof *b, PROT_READ);
-    protect(list, 8 * places, PROT_READ);
-    const Both both = call();
-    protect(b, sizeof *b, PROT_READ | PROT_WRITE);
-    protect(list, 8 * places, PROT_READ | PROT_WRITE);
-    return both;
-}
-
 static void one_round(void)
 {
     draw();
