@@ -22,9 +22,12 @@ c_program() { # name, source
 try "the archive" tools/archive
 c_program breaker examples/breaker.c
 c_program waiting examples/waiting.c
+c_program checkpoints examples/checkpoints.c
 sed -n '/^    #include <stdio.h>/,/^    }/s/^    //p' README.md > "$out/readme.c"
 c_program readme "$out/readme.c"
 cd bindings/rust
 try "the Rust crate" cargo test --offline --locked
-try "its example" cargo run --offline --locked --example limiter
+for example in limiter checkpoints; do
+    try "its example $example" cargo run --offline --locked --example "$example"
+done
 echo "bindings: C programs and Rust crate pass"

@@ -5,11 +5,13 @@
  * A round draws a record, a storage, a pending wait and the rest, and makes one call. The same is computed by document 01 once more
  * (model.c): every value told, every field of record and wait, every place and every answer of a batch must be as computed there. So
  * a refused call must have left all as it was, and an accepted one a record that is sound by both computations. A flag is 0 or each of
- * the 255 other bytes in turn.
+ * the 255 other bytes in turn. The calls of saves are computed by document 02 (saves.c); their buffers are any bytes, or runs that the
+ * model wrote, half of them damaged in a few places, with and without the sum made right.
  *
  * Each buffer is exactly as large as its count says, either on the heap (for sanitizers and valgrind) or against a page that can't be
- * touched (for code that no sanitizer has seen). For a call that only reads, record and storage against such a page can't be written.
- * It prints the counts, and exits 0 only without a finding. */
+ * touched (for code that no sanitizer has seen); bytes of saves and names also amid others, which must stay, at any address. For a call
+ * that only reads, record and storage against such a page can't be written. It prints the counts, and exits 0 only without a finding: a
+ * row of saves that no call met is one too. */
 #define _GNU_SOURCE
 #include <math.h>
 #include <stdio.h>
@@ -18,7 +20,7 @@
 #include <sys/mman.h>
 #include <unistd.h>
 
-#include "model.h"
+#include "saves.h"
 
 #define BOUND (UINT64_C(1) << 62)
 
@@ -92,10 +94,45 @@ static Exact exact(size_t bytes)
 static bool use_guarded;
 static void *pick(Exact e) { return use_guarded ? e.guarded : e.heap; }
 
+/* Bytes of any size, lent in one of three manners. */
+#define EDGE 64
+typedef struct {
+    uint8_t *end, *amid; /* a page that can't be touched, and the middle of others */
+    uint8_t *at, *heap, mark;
+    size_t size, before, behind; /* and so many marks on either side */
+} Area;
+
+static Area area(size_t most)
+{
+    Area a = { .end = against_a_page(most + EDGE), .amid = malloc(most + 3 * EDGE) };
+    if (a.amid == NULL)
+        exit(2);
+    a.end += most + EDGE;
+    return a;
+}
+
+static void *lend(Area *a, const uint8_t *bytes, size_t size)
+{
+    const bool own = !use_guarded && coin();
+    a->heap = own ? malloc(size) : NULL;
+    if (own && a->heap == NULL)
+        exit(2);
+    a->at = own ? a->heap : use_guarded ? a->end - size : a->amid + EDGE + below(EDGE);
+    a->size = size;
+    a->before = own ? 0 : EDGE;
+    a->behind = own || use_guarded ? 0 : EDGE;
+    a->mark = (uint8_t)any();
+    memset(a->at - a->before, a->mark, a->before);
+    memcpy(a->at, bytes, size);
+    memset(a->at + size, a->mark, a->behind);
+    return a->at;
+}
+
 static const size_t place_counts[] = { PUDVIREZ_PLACES, 0, 1, 4095, 4097 };
 static const size_t turn_counts[] = { 0, 1, 7, 8, 9, 16, 160 };
 static const size_t call_counts[] = { 0, 1, 3, 16, 64 };
 static Exact storages[5], turn_buffers[7], generation_buffers[5], probe_buffers[5], settle_buffers[5], mark_buffers[5], answer_buffers[5], records, pendings;
+static Area saves_area, name_area;
 
 static uint64_t zeros[4097], ones[4097], flags[4097], times[4097], edges[4097];
 
@@ -114,6 +151,8 @@ static void make_buffers(void)
     }
     records = exact(sizeof(PudvirezBreaker));
     pendings = exact(sizeof(PudvirezPending));
+    saves_area = area(SAVES_MOST);
+    name_area = area(NAME_MOST);
     uint64_t t = 1000;
     for (int i = 0; i < 4097; i++) {
         ones[i] = 1;
@@ -125,10 +164,11 @@ static void make_buffers(void)
 
 /* ---- the functions, and the flags of each */
 
-enum { BUILD, ADMIT_AS, SETTLE, ABORT_AS, PERMIT_SUCCESS, PERMIT_FAILURE, PERMIT_DROPPED, PERMIT_CANCEL, RESET, RECORD_MANUAL, RELEASE_TRAIT_PROBE, TRY_ADMIT, ACQUIRE_COST, RESERVE, REFUND, FINISH_ALL,
-       WAIT_START, WAIT_TURN, WAIT_RUN, WAIT_DROP, STILL_ADMITS, PREVIEW_SETTLE, PREVIEW_ABORT, PEEK, AVAILABLE, BOARD, IS_SOUND, FUNCTIONS };
-static const char *const names[FUNCTIONS] = { "build", "admit_as", "settle", "abort_as", "permit_success", "permit_failure", "permit_dropped", "permit_cancel", "reset", "record_manual", "release_trait_probe",
-       "try_admit", "acquire_cost", "reserve", "refund", "finish_all", "wait_start", "wait_turn", "wait_run", "wait_drop", "still_admits", "preview_settle", "preview_abort", "peek", "available", "board", "is_sound" };
+enum { BUILD, RECONFIGURE, RESTORE, ADMIT_AS, SETTLE, ABORT_AS, PERMIT_SUCCESS, PERMIT_FAILURE, PERMIT_DROPPED, PERMIT_CANCEL, RESET, RECORD_MANUAL, RELEASE_TRAIT_PROBE, TRY_ADMIT, ACQUIRE_COST,
+       RESERVE, REFUND, FINISH_ALL, WAIT_START, WAIT_TURN, WAIT_RUN, WAIT_DROP, STILL_ADMITS, PREVIEW_SETTLE, PREVIEW_ABORT, PEEK, AVAILABLE, SAVE, CHECK_BLOCK, BOARD, IS_SOUND, FUNCTIONS };
+static const char *const names[FUNCTIONS] = { "build", "reconfigure", "restore", "admit_as", "settle", "abort_as", "permit_success", "permit_failure", "permit_dropped", "permit_cancel", "reset",
+       "record_manual", "release_trait_probe", "try_admit", "acquire_cost", "reserve", "refund", "finish_all", "wait_start", "wait_turn", "wait_run", "wait_drop", "still_admits",
+       "preview_settle", "preview_abort", "peek", "available", "save", "check_block", "board", "is_sound" };
 
 /* A flag of a function: via_trait, success, limited or marks; a ticket's or a batch's probe; a pending wait's probe, or settles. */
 enum { MARK, PROBE, THIRD, SLOTS };
@@ -212,6 +252,17 @@ static void draw_sound(void)
     memcpy(list, from + below(4097 - len + 1), 8 * len);
 }
 
+/* A Ratio list that just fills the blocks of its save, or has one item less or more. */
+static void fill_blocks(void)
+{
+    if (b->config.kind != PUDVIREZ_POLICY_RATIO || places != PUDVIREZ_PLACES)
+        return;
+    b->config.limit = 4096;
+    b->shared.len = (uint32_t)(496 * (1 + below(8)) - 86 + below(3) - 1);
+    memset(list, 0, 8 * places);
+    memcpy(list, flags, 8 * b->shared.len);
+}
+
 /* One field or place to any number. */
 static void damage(void)
 {
@@ -291,7 +342,8 @@ static PudvirezSetting draw_setting(void)
 
 /* ---- findings */
 
-static uint64_t counts[FUNCTIONS][12], several, fives, findings, round_number;
+#define NUMBERS 16
+static uint64_t counts[FUNCTIONS][NUMBERS], rows[FUNCTIONS][ROWS], several, fives, findings, round_number;
 
 static void expect(bool holds, const char *what, uint64_t got, uint64_t want)
 {
@@ -401,6 +453,216 @@ static Both preview(PudvirezPreview want, PudvirezPreview got)
     return TOLD(plain(want.told), got.told);
 }
 
+/* ---- saves */
+
+static Saves saves;
+static Model other;
+
+/* The names differ in one or two bytes, 0 and 127 among them. */
+#define KNOWN 128
+static void put_name(uint8_t *to, size_t which)
+{
+    memset(to, 'a', PUDVIREZ_NAME);
+    to[which % 8] = (uint8_t)(which < 8 ? 0 : which < 16 ? 127 : 'A' + which / 8);
+}
+
+/* Another breaker, with a list that so many blocks have room for; now and then one that is not sound. */
+static void draw_other(size_t blocks)
+{
+    PudvirezBreaker *const lent = b;
+    uint64_t *const lent_list = list;
+    const size_t lent_places = places, most = blocks * 496 - 86;
+    b = &other.breaker, list = other.list, places = other.places = PUDVIREZ_PLACES;
+    draw_sound();
+    PudvirezShared *s = &b->shared;
+    const bool ratio = b->config.kind == PUDVIREZ_POLICY_RATIO;
+    if (chance(4))
+        fill_blocks();
+    if (s->len > most / (ratio ? 1 : 8))
+        s->len = (uint32_t)(most / (ratio ? 1 : 8));
+    memset(list + s->len, 0, 8 * (PUDVIREZ_PLACES - s->len));
+    if (chance(24))
+        damage();
+    b = lent, list = lent_list, places = lent_places;
+}
+
+/* Runs of names from the first one on, within so many blocks; how many runs. */
+static size_t draw_runs(size_t blocks, size_t first)
+{
+    size_t runs = 0;
+    while (saves.used / PUDVIREZ_BLOCK < blocks && runs < KNOWN && (runs == 0 || !chance(5))) {
+        const size_t left = blocks - saves.used / PUDVIREZ_BLOCK;
+        uint8_t name[PUDVIREZ_NAME];
+        put_name(name, (first + (chance(40) ? 0 : runs)) % KNOWN);
+        if (chance(60))
+            name[below(PUDVIREZ_NAME)] |= 128;
+        draw_other(chance(3) ? left : 1 + below(left < 4 ? left : 4));
+        if (run_blocks(&other) > left)
+            break;
+        write_run(saves.bytes + saves.used, name, &other);
+        saves.used += PUDVIREZ_BLOCK * run_blocks(&other);
+        runs++;
+    }
+    return runs;
+}
+
+static void damage_header(uint8_t *block)
+{
+    const size_t used = coin() ? 495 + below(4) : (size_t)(block[6] | block[7] << 8) + 1;
+    switch (below(6)) {
+    case 0: block[2 + below(6)] = (uint8_t)word(); break;
+    case 1: block[2 + 2 * below(3)] += coin() ? 1 : 255; break;
+    case 2: block[2] = (uint8_t)below(3); break;
+    case 3: memcpy(block + 2, block + 4, 2); break;
+    case 4: memset(block + 6, 0, 2 + (coin() ? 0 : 496)); break;
+    default: block[6] = (uint8_t)used, block[7] = (uint8_t)(used >> 8);
+    }
+}
+
+/* Damages one block. Where it goes on, the sum is made right again. */
+static void damage_block(uint8_t *block)
+{
+    const size_t used = block[6] | block[7] << 8;
+    switch (below(9)) {
+    case 0: block[below(PUDVIREZ_BLOCK)] ^= (uint8_t)(1 + below(255)); return;
+    case 1: block[508 + below(4)] += coin() ? 1 : 255; return;
+    case 2: block[504 + below(4)] = (uint8_t)word(); return;
+    case 3: block[below(2)] = (uint8_t)(coin() ? below(5) : word()); break;
+    case 4:
+    case 5: damage_header(block); break;
+    case 6: block[8 + below(86)] = (uint8_t)word(); break;
+    case 7: block[8 + below(496)] ^= (uint8_t)(1 + below(255)); break;
+    default: block[coin() ? 503 : 8 + used % 496] ^= (uint8_t)(1 + below(255)); break;
+    }
+    seal(block);
+}
+
+static void damage_saves(void)
+{
+    const size_t count = saves.used / PUDVIREZ_BLOCK;
+    if (count == 0)
+        return;
+    uint8_t *block = saves.bytes + PUDVIREZ_BLOCK * below(count);
+    switch (below(12)) {
+    case 0: memmove(block, saves.bytes + PUDVIREZ_BLOCK * below(count), PUDVIREZ_BLOCK); break;
+    case 1: saves.used -= PUDVIREZ_BLOCK; break;
+    case 2: saves.used += count < 128 ? PUDVIREZ_BLOCK : 0; break; /* a block of an earlier round */
+    default: damage_block(block);
+    }
+}
+
+/* Lengths that the first pass refuses, mostly. */
+static void draw_lengths(void)
+{
+    static const size_t some[] = { 0, 1, 511, 513, 65024, 65535, 65537, 66048, 131072, SAVES_MOST };
+    if (coin())
+        saves.size = coin() ? some[below(10)] : below(SAVES_MOST + 1);
+    else
+        saves.used = coin() ? word() : chance(2) ? saves.size + PUDVIREZ_BLOCK : saves.used + below(3) - 1;
+}
+
+/* Asked for: mostly a name that makes the call go on. */
+static void draw_asked(size_t first, size_t runs)
+{
+    static const size_t some[] = { 0, 1, 7, 9, 16, NAME_MOST };
+    const bool there = runs != 0 && (f == RESTORE) == !chance(8);
+    memset(saves.name, 'a', NAME_MOST);
+    put_name(saves.name, (first + (there ? below(runs) : runs)) % KNOWN);
+    if (runs != 0 && chance(12)) { /* one byte off a name that is there */
+        put_name(saves.name, (first + below(runs)) % KNOWN);
+        saves.name[below(PUDVIREZ_NAME)] ^= 1;
+    }
+    if (chance(16))
+        saves.name[below(PUDVIREZ_NAME)] |= 128;
+    if (chance(30))
+        for (int i = 0; i < NAME_MOST; i++)
+            saves.name[i] = (uint8_t)any();
+    saves.name_size = chance(12) ? (coin() ? some[below(6)] : below(NAME_MOST + 1)) : PUDVIREZ_NAME;
+}
+
+/* Any bytes from a place on, in most blocks with the version, the sum or both made right. */
+static void draw_bytes(size_t from)
+{
+    for (size_t i = from; i < saves.size; i++)
+        saves.bytes[i] = (uint8_t)any();
+    for (size_t i = from; i < saves.size && saves.size - i >= PUDVIREZ_BLOCK; i += PUDVIREZ_BLOCK) {
+        if (!chance(4))
+            saves.bytes[i] = 1, saves.bytes[i + 1] = 0;
+        if (!chance(6))
+            seal(saves.bytes + i);
+    }
+}
+
+/* A buffer with room for the breaker in hand, mostly. Behind what is used are any bytes, or those of an earlier round. */
+static void draw_saves(void)
+{
+    const size_t need = f == SAVE ? run_blocks(&model) : 1, most = chance(8) ? 128 : 128 - need, first = below(KNOWN);
+    const bool wild = chance(12);
+    saves.used = 0;
+    const size_t runs = wild ? 0 : draw_runs(chance(6) ? most : below(most < 16 ? most + 1 : 16), first);
+    for (size_t i = coin() ? 0 : coin() ? 1 : 1 + below(4); i > 0; i--)
+        damage_saves();
+    const size_t left = 128 - saves.used / PUDVIREZ_BLOCK, spare = chance(6) ? below(need) : need + (coin() ? 0 : below(6));
+    saves.size = saves.used + PUDVIREZ_BLOCK * (spare < left ? spare : left);
+    if (wild)
+        saves.used = PUDVIREZ_BLOCK * below(saves.size / PUDVIREZ_BLOCK + 1);
+    if (chance(16))
+        draw_lengths();
+    if (wild || coin())
+        draw_bytes(wild ? 0 : saves.used);
+    draw_asked(first, runs);
+}
+
+/* What was lent must be as the model left it, and the bytes next to it as they were. */
+static void take_back(Area *a, const uint8_t *bytes, const char *what)
+{
+    bool stayed = true;
+    for (size_t i = 1; i <= a->before; i++)
+        stayed &= a->at[-(ptrdiff_t)i] == a->mark;
+    for (size_t i = 0; i < a->behind; i++)
+        stayed &= a->at[a->size + i] == a->mark;
+    expect(memcmp(a->at, bytes, a->size) == 0, what, 1, 0);
+    expect(stayed, "a byte next to a buffer", 1, 0);
+    free(a->heap);
+}
+
+static Both saves_call(void)
+{
+    draw_saves();
+    uint8_t *bytes = lend(&saves_area, saves.bytes, saves.size);
+    const uint8_t *name = lend(&name_area, saves.name, saves.name_size);
+    const size_t size = saves.size, used = saves.used, name_size = saves.name_size;
+    const Both both = f == SAVE ? TOLD(model_save(&model, &saves), pudvirez_save(b, list, places, bytes, size, used, name, name_size))
+                                : TOLD(model_restore(&model, &saves), pudvirez_restore(b, list, places, bytes, size, used, name, name_size));
+    take_back(&saves_area, saves.bytes, "a byte of the saves");
+    take_back(&name_area, saves.name, "a byte of the name");
+    return both;
+}
+
+/* One block, mostly of a run, and damaged in two of three rounds. */
+static Both check_block(void)
+{
+    static const size_t some[] = { 0, 1, 511, 513, 1024 };
+    const size_t size = chance(8) ? (coin() ? some[below(5)] : below(1025)) : PUDVIREZ_BLOCK;
+    for (size_t i = 0; i < 1024; i++)
+        saves.bytes[i] = (uint8_t)any();
+    draw_other(128);
+    if (!chance(8)) {
+        static uint8_t run[128 * PUDVIREZ_BLOCK];
+        write_run(run, saves.bytes, &other);
+        memcpy(saves.bytes, run + PUDVIREZ_BLOCK * below(run_blocks(&other)), PUDVIREZ_BLOCK);
+    } else if (coin())
+        seal(saves.bytes);
+    for (size_t i = below(3); i > 0; i--)
+        damage_block(saves.bytes);
+    const uint8_t *block = lend(&saves_area, saves.bytes, size);
+    const Both both = TOLD(model_check_block(saves.bytes, size), pudvirez_check_block(block, size));
+    take_back(&saves_area, saves.bytes, "a byte of the block");
+    return both;
+}
+
+/* ---- the other calls */
+
 /* The calls with a ticket or a flag. */
 static Both ticket_call(void)
 {
@@ -429,6 +691,7 @@ static Both other_call(void)
     const PudvirezSetting setting = draw_setting();
     switch (f) {
     case BUILD: return TOLD(model_build(&model, &setting), pudvirez_build(b, list, places, setting));
+    case RECONFIGURE: return TOLD(model_reconfigure(&model, &setting), pudvirez_reconfigure(b, list, places, setting));
     case RESET: return TOLD(model_reset(&model), pudvirez_reset(b, list, places));
     case RELEASE_TRAIT_PROBE: return TOLD(model_refund(&model, 0), pudvirez_release_trait_probe(b, list, places));
     case TRY_ADMIT: return TOLD(model_try_admit(&model, now, kind, number), pudvirez_try_admit(b, list, places, now, kind, ms, number));
@@ -460,6 +723,8 @@ static void draw(void)
         draw_wild();
     else {
         draw_sound();
+        if (f == SAVE && chance(4))
+            fill_blocks();
         if (coin())
             damage();
     }
@@ -469,12 +734,13 @@ static void draw(void)
     model.places = places;
     memcpy(model.list, list, 8 * places);
     met_several = false;
+    met_row = ROW_NONE;
 }
 
 static Both call(void)
 {
-    const bool tickets = has_flag[f][MARK] || has_flag[f][PROBE];
-    return f == FINISH_ALL ? finish_all() : f >= WAIT_START && f <= WAIT_DROP ? wait_call() : tickets ? ticket_call() : other_call();
+    const bool tickets = has_flag[f][MARK] || has_flag[f][PROBE], saved = f == SAVE || f == RESTORE;
+    return f == FINISH_ALL ? finish_all() : f >= WAIT_START && f <= WAIT_DROP ? wait_call() : tickets ? ticket_call() : saved ? saves_call() : f == CHECK_BLOCK ? check_block() : other_call();
 }
 
 /* A call, on pages that it can only read if that is all it may do. */
@@ -509,9 +775,10 @@ static void one_round(void)
     expect(p->ticket.probe == model.pending.ticket.probe, "the probe byte of the wait's ticket", p->ticket.probe, model.pending.ticket.probe);
     const bool sound = model_sound(&model);
     expect(pudvirez_is_sound(b, list, places) == sound, "soundness after it", !sound, sound);
-    if (got.number == PUDVIREZ_TOLD_OK || (f != BUILD && got.number > PUDVIREZ_TOLD_UNSOUND))
+    if (f != CHECK_BLOCK && (got.number == PUDVIREZ_TOLD_OK || (f != BUILD && got.number > PUDVIREZ_TOLD_UNSOUND)))
         expect(sound, "not sound after it", 0, 1);
-    counts[f][got.number < 12 ? got.number : 0] += 1;
+    counts[f][got.number < NUMBERS ? got.number : 0] += 1;
+    rows[f][met_row] += 1;
     several += met_several;
 }
 
@@ -531,6 +798,44 @@ static void all_bytes(void)
     printf("%d of %d flags were every byte\n", whole, all);
 }
 
+/* Every row of saves must have been met by every call that can meet it. */
+static void all_rows(void)
+{
+    static const char *const row_names[ROWS] = { "told 0", "13 lengths", "13 sum", "14 version", "13 header", "13 zero byte", "13 body", "13 not sound", "13 name twice", "15 not 8 bytes",
+                                                 "15 not ASCII", "15 absent", "15 already there", "15 no room" };
+    static const int calls[] = { SAVE, RESTORE, CHECK_BLOCK };
+    printf("%-20s %10s %10s %10s\n", "rows of saves", names[SAVE], names[RESTORE], names[CHECK_BLOCK]);
+    for (int row = 0; row < ROWS; row++) {
+        printf("%-20s", row_names[row]);
+        for (int i = 0; i < 3; i++) {
+            f = calls[i];
+            const bool can = f == CHECK_BLOCK ? row <= ROW_ZERO : f == SAVE ? row != ROW_ABSENT : row != ROW_THERE && row != ROW_NO_ROOM;
+            const uint64_t met = row == ROW_NONE ? counts[f][PUDVIREZ_TOLD_OK] : rows[f][row];
+            printf(" %10llu", (unsigned long long)met);
+            expect(can == (met != 0), row_names[row], met, can);
+        }
+        printf("\n");
+    }
+    f = RECONFIGURE;
+    for (int number = PUDVIREZ_TOLD_OK; number <= PUDVIREZ_TOLD_UNSOUND; number++)
+        expect(counts[f][number] != 0, "met by no call", (uint64_t)number, 1);
+}
+
+static void print_counts(void)
+{
+    printf("%-20s", "told");
+    for (int n = 0; n < NUMBERS; n++)
+        if (n != 12) /* of the journal */
+            printf(" %7d", n);
+    for (f = 0; f < FUNCTIONS; f++) {
+        printf("\n%-20s", names[f]);
+        for (int n = 0; n < NUMBERS; n++)
+            if (n != 12)
+                printf(counts[f][n] == 0 ? "       -" : " %7llu", (unsigned long long)counts[f][n]);
+    }
+    printf("\nin batches %llu calls were told 5\n", (unsigned long long)fives);
+}
+
 int main(int argc, char **argv)
 {
     if (argc != 3) {
@@ -539,19 +844,13 @@ int main(int argc, char **argv)
     }
     const uint64_t rounds = strtoull(argv[1], NULL, 10);
     seed = strtoull(argv[2], NULL, 10);
+    setvbuf(stdout, NULL, _IOLBF, 0);
     make_buffers();
     for (round_number = 1; round_number <= rounds; round_number++)
         one_round();
-    printf("%-20s", "told");
-    for (int n = 0; n < 12; n++)
-        printf(" %7d", n);
-    for (f = 0; f < FUNCTIONS; f++) {
-        printf("\n%-20s", names[f]);
-        for (int n = 0; n < 12; n++)
-            printf(counts[f][n] == 0 ? "       -" : " %7llu", (unsigned long long)counts[f][n]);
-    }
-    printf("\nin batches %llu calls were told 5\n", (unsigned long long)fives);
+    print_counts();
     all_bytes();
+    all_rows();
     printf("%llu rounds of seed %s, %llu of them with several causes at once; %llu findings\n", (unsigned long long)rounds, argv[2], (unsigned long long)several, (unsigned long long)findings);
     return findings == 0 ? 0 : 1;
 }

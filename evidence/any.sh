@@ -1,7 +1,7 @@
 #!/usr/bin/env bash
-# Makes the archive, feeds every function of it with any numbers (any.c) and compares all with document 01 once more (model.c), under the
-# sanitizers and under valgrind, and shows that planted faults are found. What is proved already is not proved again. Where the
-# sanitizers or valgrind are missing it says so and goes on.
+# Makes the archive, feeds every function of it with any numbers (any.c) and compares all with document 01 (model.c) and the saves of
+# document 02 (saves.c) once more, under the sanitizers and under valgrind, and shows that planted faults are found. What is proved already
+# is not proved again. Where the sanitizers or valgrind are missing it says so and goes on.
 #     evidence/any.sh [ROUNDS] [ROUNDS under valgrind] [SEED]
 set -eu
 cd "$(dirname "$0")/.."
@@ -17,7 +17,7 @@ wrong=0
 build() { # name, further arguments
     local name=$1
     shift
-    gcc -std=c11 -O2 -g -Wall -Wextra -Werror -Iinclude "$@" evidence/any.c evidence/model.c "$lib" -lm -o "$out/$name"
+    gcc -std=c11 -O2 -g -Wall -Wextra -Werror -Iinclude "$@" evidence/any.c evidence/model.c evidence/saves.c "$lib" -lm -o "$out/$name"
 }
 build any
 
@@ -37,9 +37,11 @@ else
 fi
 
 echo "== planted faults"
-for fault in 1 2 3 4 5 6 7 8 9 10 24 25 26 27 28; do
-    build "fault_$fault" -DFAULT="$fault" -Wl,--wrap=pudvirez_settle,--wrap=pudvirez_admit_as,--wrap=pudvirez_wait_drop,--wrap=pudvirez_preview_settle,--wrap=pudvirez_preview_abort evidence/any_faults.c
-    if (ulimit -c 0; "$out/fault_$fault" 100000 "$seed") > "$out/fault_$fault.out" 2>&1; then
+wrap=
+for call in settle admit_as wait_drop reconfigure save restore check_block preview_settle preview_abort; do wrap="$wrap,--wrap=pudvirez_$call"; done
+for fault in $(seq 1 21) 24 25 26 27 28; do
+    build "fault_$fault" -DFAULT="$fault" "-Wl$wrap" evidence/any_faults.c
+    if (ulimit -c 0; "$out/fault_$fault" 300000 "$seed") > "$out/fault_$fault.out" 2>&1; then
         echo "fault $fault was not found"
         wrong=1
     else

@@ -1,12 +1,17 @@
-/* Faults for any.c to find: compiled with FAULT, and --wrap for the linker, so that settle, admit_as,
- * wait_drop and the previews go through here. */
+/* Faults for any.c to find: compiled with FAULT, and --wrap for the linker, so that the calls below go through here. */
 #include "pudvirez.h"
+
+#include <string.h>
 
 PudvirezTold __real_pudvirez_settle(PudvirezBreaker *b, uint64_t *list, size_t places, uint64_t now_ms, PudvirezTicket ticket, uint8_t success);
 PudvirezTold __real_pudvirez_admit_as(PudvirezBreaker *b, uint64_t *list, size_t places, uint64_t now_ms, uint8_t via_trait);
 PudvirezPreview __real_pudvirez_preview_settle(const PudvirezBreaker *b, const uint64_t *list, size_t places, uint64_t now_ms, PudvirezTicket ticket, uint8_t success);
 PudvirezPreview __real_pudvirez_preview_abort(const PudvirezBreaker *b, const uint64_t *list, size_t places, PudvirezTicket ticket, uint8_t via_trait);
 PudvirezWaited __real_pudvirez_wait_drop(PudvirezBreaker *b, uint64_t *list, size_t places, PudvirezPending *p);
+PudvirezTold __real_pudvirez_reconfigure(PudvirezBreaker *b, uint64_t *list, size_t places, PudvirezSetting setting);
+PudvirezTold __real_pudvirez_save(const PudvirezBreaker *b, const uint64_t *list, size_t places, uint8_t *saves, size_t size, size_t used, const uint8_t *name, size_t name_size);
+PudvirezTold __real_pudvirez_restore(PudvirezBreaker *b, uint64_t *list, size_t places, const uint8_t *saves, size_t size, size_t used, const uint8_t *name, size_t name_size);
+PudvirezTold __real_pudvirez_check_block(const uint8_t *block, size_t size);
 
 PudvirezTold __wrap_pudvirez_settle(PudvirezBreaker *b, uint64_t *list, size_t places, uint64_t now_ms, PudvirezTicket ticket, uint8_t success)
 {
@@ -84,4 +89,69 @@ PudvirezWaited __wrap_pudvirez_wait_drop(PudvirezBreaker *b, uint64_t *list, siz
     p->ticket.probe = p->ticket.probe == 2 ? 1 : p->ticket.probe;
 #endif
     return t;
+}
+
+PudvirezTold __wrap_pudvirez_reconfigure(PudvirezBreaker *b, uint64_t *list, size_t places, PudvirezSetting setting)
+{
+    PudvirezTold t = __real_pudvirez_reconfigure(b, list, places, setting);
+#if FAULT == 11 /* new settings keep the generation */
+    b->shared.generation -= t.number == PUDVIREZ_TOLD_OK;
+#endif
+    return t;
+}
+
+PudvirezTold __wrap_pudvirez_save(const PudvirezBreaker *b, const uint64_t *list, size_t places, uint8_t *saves, size_t size, size_t used, const uint8_t *name, size_t name_size)
+{
+    PudvirezTold t = __real_pudvirez_save(b, list, places, saves, size, used, name, name_size);
+#if FAULT == 12 /* writes a byte past its run */
+    if (t.number == PUDVIREZ_TOLD_OK && t.v1 < size)
+        saves[t.v1] ^= 1;
+#elif FAULT == 13 /* writes a byte past the buffer */
+    if (t.number == PUDVIREZ_TOLD_OK && t.v1 == size)
+        saves[size] ^= 1;
+#elif FAULT == 14 /* a refused save has begun to write */
+    if (t.number == PUDVIREZ_TOLD_NAME && used < size)
+        saves[used] ^= 1;
+#elif FAULT == 15 /* a name of seven bytes or nine will do */
+    if (t.number == PUDVIREZ_TOLD_NAME && (name_size == 7 || name_size == 9))
+        t = __real_pudvirez_save(b, list, places, saves, size, used, (const uint8_t *)"a name  ", 8);
+#endif
+    return t;
+}
+
+PudvirezTold __wrap_pudvirez_restore(PudvirezBreaker *b, uint64_t *list, size_t places, const uint8_t *saves, size_t size, size_t used, const uint8_t *name, size_t name_size)
+{
+    const uint64_t last = places == 0 ? 0 : list[places - 1];
+    const uint32_t inflight = b->shared.counts.inflight;
+    PudvirezTold t = __real_pudvirez_restore(b, list, places, saves, size, used, name, name_size);
+    const bool back = t.number == PUDVIREZ_TOLD_OK;
+#if FAULT == 16 /* a refused return moves the generation */
+    b->shared.generation += t.number == PUDVIREZ_TOLD_NAME;
+#elif FAULT == 17 /* keeps the trials that are out */
+    if (back && b->shared.state == PUDVIREZ_STATE_HALF_OPEN && inflight <= b->config.trials)
+        b->shared.counts.inflight = inflight;
+#elif FAULT == 18 /* leaves a place past its list */
+    if (back && b->shared.len < places)
+        list[places - 1] = last;
+#elif FAULT == 19 /* a version before the sums of the blocks behind it */
+    if (t.number == PUDVIREZ_TOLD_DAMAGED && size <= PUDVIREZ_SAVES && size % 512 == 0 && used % 512 == 0 && used != 0 && used <= size && saves[0] != 1)
+        t.number = PUDVIREZ_TOLD_VERSION;
+#endif
+    (void)last, (void)inflight, (void)back;
+    return t;
+}
+
+PudvirezTold __wrap_pudvirez_check_block(const uint8_t *block, size_t size)
+{
+#if FAULT == 20 /* the four zero bytes behind the body are not tested */
+    uint8_t copy[PUDVIREZ_BLOCK];
+    if (size == sizeof copy) {
+        memcpy(copy, block, sizeof copy);
+        memset(copy + 504, 0, 4);
+        return __real_pudvirez_check_block(copy, size);
+    }
+#elif FAULT == 21 /* reads a byte past the block */
+    (void)((const volatile uint8_t *)block)[size];
+#endif
+    return __real_pudvirez_check_block(block, size);
 }

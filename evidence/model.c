@@ -234,6 +234,8 @@ static uint32_t refusal(const Model *m, bool storage, bool turn, bool time)
 
 static uint32_t unsound(const Model *m) { return refusal(m, false, false, false); }
 
+uint32_t model_refusal(const Model *m) { return unsound(m); }
+
 static uint32_t unknown_decision(const Model *m, uint8_t kind) { return refusal(m, false, kind < PUDVIREZ_DECISION_ACQUIRED || kind > PUDVIREZ_DECISION_IMPOSSIBLE, false); }
 
 /* ---- making a breaker */
@@ -267,17 +269,30 @@ static PudvirezConfig normal(const PudvirezSetting *s)
     return c;
 }
 
-Answer model_build(Model *m, const PudvirezSetting *s)
+/* What is refused of a setting: 4, 1 and 2. */
+static bool unknown_policy(const PudvirezSetting *s) { return s->kind < PUDVIREZ_POLICY_CONSECUTIVE || s->kind > PUDVIREZ_POLICY_WINDOWED; }
+static bool wrong_nanos(const PudvirezSetting *s) { return s->cooldown_nanos >= BILLION || (s->kind == PUDVIREZ_POLICY_WINDOWED && s->period_nanos >= BILLION); }
+static bool over_limit(const PudvirezSetting *s) { return (s->kind == PUDVIREZ_POLICY_RATIO || s->kind == PUDVIREZ_POLICY_WINDOWED) && s->limit > 4096; }
+
+/* A fresh record of a setting, unless it is refused. */
+static Answer put_in_force(Model *m, const PudvirezSetting *s, bool unsound, uint64_t generation)
 {
-    bool storage = m->places != PUDVIREZ_PLACES, unknown = s->kind < PUDVIREZ_POLICY_CONSECUTIVE || s->kind > PUDVIREZ_POLICY_WINDOWED;
-    bool time = s->cooldown_nanos >= BILLION || (s->kind == PUDVIREZ_POLICY_WINDOWED && s->period_nanos >= BILLION);
-    bool limit = (s->kind == PUDVIREZ_POLICY_RATIO || s->kind == PUDVIREZ_POLICY_WINDOWED) && s->limit > 4096;
-    met_several = storage + unknown + time + limit > 1;
-    if (storage || unknown || time || limit)
-        return told(storage ? PUDVIREZ_TOLD_STORAGE : unknown ? PUDVIREZ_TOLD_UNSOUND : time ? PUDVIREZ_TOLD_TIME : PUDVIREZ_TOLD_LIMIT);
-    m->breaker = (PudvirezBreaker){ .config = normal(s) };
+    bool storage = m->places != PUDVIREZ_PLACES, time = wrong_nanos(s), limit = over_limit(s);
+    met_several = storage + unsound + time + limit > 1;
+    if (storage || unsound || time || limit)
+        return told(storage ? PUDVIREZ_TOLD_STORAGE : unsound ? PUDVIREZ_TOLD_UNSOUND : time ? PUDVIREZ_TOLD_TIME : PUDVIREZ_TOLD_LIMIT);
+    m->breaker = (PudvirezBreaker){ .config = normal(s), .shared = { .generation = generation } };
     memset(m->list, 0, sizeof m->list);
     return told(PUDVIREZ_TOLD_OK);
+}
+
+Answer model_build(Model *m, const PudvirezSetting *s) { return put_in_force(m, s, unknown_policy(s), 0); }
+
+/* W-201: "a fresh record whose generation is one past the present one" */
+Answer model_reconfigure(Model *m, const PudvirezSetting *s)
+{
+    bool unsound = !sound_record(&m->breaker) || (m->places == PUDVIREZ_PLACES && !sound_list(m));
+    return put_in_force(m, s, unsound || unknown_policy(s), m->breaker.shared.generation + 1);
 }
 
 /* ---- the calls */

@@ -1,5 +1,5 @@
-/* Document 01 a second time, in C: what each call is told, and what it leaves; with document 02's previews. Written from the documents,
- * for evidence/any.c. */
+/* Document 01 a second time, in C: what each call is told, and what it leaves; with document 02's new settings and previews. Written from the
+ * documents, for evidence/any.c. The calls of saves, which document 02 adds, are in saves.h. */
 #ifndef MODEL_H
 #define MODEL_H
 
@@ -16,12 +16,16 @@ typedef struct {
 /* Every answer in the widest form. */
 typedef PudvirezWaited Answer;
 
-/* Whether several of 3, 4, 11, 1 and 2 were met by the last call. */
+/* Whether several of 3, 4, 11, 1 and 2 were met by the last call; of the calls of saves, of 3, 4, 13, 14, 13 and 15. */
 extern bool met_several;
 
 bool model_sound(const Model *m);
 
+/* 3 or 4, or 0 where neither is met: what every call on a breaker tests first. */
+uint32_t model_refusal(const Model *m);
+
 Answer model_build(Model *m, const PudvirezSetting *setting);
+Answer model_reconfigure(Model *m, const PudvirezSetting *setting);
 Answer model_admit(Model *m, uint64_t now, bool via_trait);
 Answer model_settle(Model *m, uint64_t now, PudvirezTicket ticket, bool success);
 Answer model_abort(Model *m, PudvirezTicket ticket, bool via_trait);

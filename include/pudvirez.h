@@ -7,10 +7,10 @@
  * Readings (`now_ms`) are milliseconds of a clock of the caller's, and may go back.
  * Compare and store fields, not bytes: what lies between the fields of a struct is not defined.
  *
- * WHAT IS TOLD. Every function answers a PudvirezTold (pudvirez_is_sound a bool, those of a wait a PudvirezWaited, a preview a
- * PudvirezPreview with one in it): `number` is a PUDVIREZ_TOLD_ constant, OK where the call was not refused, and the values are in their
- * order, 0 where there is none. Comments leave that prefix out. Refusals are tested in the order STORAGE, UNSOUND, TURN, TIME, LIMIT; the rest as the rules meet them. A call that is
- * told 1 to 6 or 11 leaves the record and every place as they were. After INNER_RETRY and COST_EXCEEDS_CAPACITY the admission has been
+ * WHAT IS TOLD. Every function answers a PudvirezTold (pudvirez_is_sound a bool, those of a wait a PudvirezWaited, a preview a PudvirezPreview
+ * with one in it): `number` is a PUDVIREZ_TOLD_ constant, OK where the call was not refused, and the values are in their order, 0 where there is
+ * none. Comments leave that prefix out. Refusals are tested in the order STORAGE, UNSOUND, TURN, TIME, LIMIT; the rest as the rules meet them. A
+ * call that is told 1 to 6, 11 or 13 to 15 leaves the record and every place as they were. After INNER_RETRY and COST_EXCEEDS_CAPACITY the admission has been
  * given back; a transition that it made stays. For the calls of a wait see WAITS.
  *
  * WAITS. A call may wait for its inner limiter. pudvirez_wait_start admits it and makes a PudvirezPending; each pudvirez_wait_turn takes
@@ -23,6 +23,13 @@
  * at a later turn, and one told UNFINISHED, leaves the wait that it reached. After CIRCUIT_OPEN, COST_EXCEEDS_CAPACITY and
  * DEADLINE_EXCEEDED of a turn or a run the ticket has been aborted, as pudvirez_abort_as without the trait side does, and the wait has
  * ended; a transition that the admission made stays. No turn, run or drop changes the ticket: a probe flag of 2 stays 2.
+ *
+ * SAVES. A breaker is saved under a name of 8 ASCII bytes, in blocks of 512 bytes at the used length of a buffer that the caller lends: whole
+ * blocks, at most 65,536 bytes, with a used length of 0 at the beginning. pudvirez_save tells the used length after it, which the caller
+ * keeps with the buffer. pudvirez_restore comes back to a name: settings, history and counters as saved, in the generation after the present
+ * one, with no trial out, so that a ticket granted fewer than 2^64 transitions before has no effect. Open-until and the times of a list are
+ * readings of the clock that was read when they were saved. Both calls test STORAGE and UNSOUND first and then all the used blocks: DAMAGED for
+ * sizes and sums, VERSION, DAMAGED for the rest; NAME comes last. A refused one leaves record, places and every byte of the buffer as they were.
  *
  * UNITS. An inner limiter's reply is handed in, so the limiter was asked first. What it granted and no call uses is to be given back:
  *     - where pudvirez_try_admit is told other than OK, pudvirez_acquire_cost other than OK with ACQUIRED, or pudvirez_reserve other than
@@ -52,6 +59,11 @@ extern "C" {
 
 #define PUDVIREZ_PLACES 4096
 
+/* Saves: the bytes of a block and of a name, and the most that a buffer has. */
+#define PUDVIREZ_BLOCK 512
+#define PUDVIREZ_NAME 8
+#define PUDVIREZ_SAVES 65536
+
 /* ---- numbers and their names */
 
 /* What a call is told: `number`. */
@@ -67,7 +79,10 @@ enum {
     PUDVIREZ_TOLD_COST_EXCEEDS_CAPACITY = 8, /* the inner limiter says impossible, or never; v1 is the cost 1, v2 the capacity */
     PUDVIREZ_TOLD_DEADLINE_EXCEEDED = 9, /* the deadline of a wait; v1 is what to give back to the inner limiter, 0 or 1 */
     PUDVIREZ_TOLD_UNFINISHED = 10, /* the limit or the turns of a run are used up, and the wait has not ended */
-    PUDVIREZ_TOLD_TURN = 11 /* an unknown reply kind, or a wait that has ended */
+    PUDVIREZ_TOLD_TURN = 11, /* an unknown reply kind, or a wait that has ended */
+    PUDVIREZ_TOLD_DAMAGED = 13, /* a wrong length, sum, header, zero byte or body of saves, a saved record not sound, or a name twice */
+    PUDVIREZ_TOLD_VERSION = 14, /* an unknown version in a block whose sum is right */
+    PUDVIREZ_TOLD_NAME = 15 /* a name that is not 8 bytes of ASCII, absent (restore), already there (save), or blocks that don't fit */
 };
 
 /* The state of a breaker. */
@@ -243,6 +258,10 @@ PudvirezTold pudvirez_build(PudvirezBreaker *breaker, uint64_t *list, size_t pla
 
 /* ---- calls that may change the breaker; each refuses with STORAGE and UNSOUND first */
 
+/* Puts new settings in force: a fresh record, as pudvirez_build makes it, in the generation after the present one. Told OK.
+ * Refuses with UNSOUND for an unknown policy, with TIME and with LIMIT, as pudvirez_build does. */
+PudvirezTold pudvirez_reconfigure(PudvirezBreaker *breaker, uint64_t *list, size_t places, PudvirezSetting setting);
+
 /* Admits a call, through the trait side or not. Told OK with the ticket: v1 its generation, v2 its probe flag (0 or 1).
  * Open from open-until on, it goes HalfOpen; a probe adds 1 to inflight, through the trait side to trait probes too.
  * Refuses with CIRCUIT_OPEN and the delay, where v1 is 0 in HalfOpen with all trials out. */
@@ -325,6 +344,18 @@ PudvirezWaited pudvirez_wait_run(PudvirezBreaker *breaker, uint64_t *list, size_
 /* Ends a wait before its time, and aborts its ticket. Told OK with v1 = 1 if a grant is held, to give back to the inner limiter, else with
  * v1 = 0. Refuses with TURN and TIME. */
 PudvirezWaited pudvirez_wait_drop(PudvirezBreaker *breaker, uint64_t *list, size_t places, PudvirezPending *pending);
+
+/* ---- saves; a save and a return refuse with STORAGE and UNSOUND first */
+
+/* Saves the breaker under a name at the used length of a buffer of saves. Told OK: v1 is the used length after it.
+ * Refuses with DAMAGED, VERSION and NAME: see SAVES. */
+PudvirezTold pudvirez_save(const PudvirezBreaker *breaker, const uint64_t *list, size_t places, uint8_t *saves, size_t size, size_t used, const uint8_t *name, size_t name_size);
+
+/* Comes back to the save of a name among the `used` bytes of a buffer of saves. Told OK. Refuses with DAMAGED, VERSION and NAME: see SAVES. */
+PudvirezTold pudvirez_restore(PudvirezBreaker *breaker, uint64_t *list, size_t places, const uint8_t *saves, size_t size, size_t used, const uint8_t *name, size_t name_size);
+
+/* The check of one block by itself. Told OK: v1 is where its used body begins, v2 its length. Refuses with DAMAGED, VERSION, DAMAGED. */
+PudvirezTold pudvirez_check_block(const uint8_t *block, size_t size);
 
 /* ---- calls that only read; each refuses with STORAGE and UNSOUND first */
 

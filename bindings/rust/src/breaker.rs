@@ -82,6 +82,16 @@ impl<C: Clock> CircuitBreaker<C> {
         BreakerState::of(self.lock().record.shared.state)
     }
 
+    /// Puts new settings in force: closed, with nothing counted. Permits of before have no effect any more.
+    /// To be able to come back, save the breaker first: [`Checkpoints`](crate::Checkpoints).
+    ///
+    /// # Errors
+    ///
+    /// [`ThrottleError::Limit`] for a window or a number of failures over 4,096; the breaker stays as it was.
+    pub fn reconfigure(&self, settings: CircuitBreakerBuilder) -> Result<(), ThrottleError> {
+        self.lock().reconfigure(settings.setting())
+    }
+
     /// Admits a call without waiting, given the reply of the inner limiter to a request of 1 unit.
     ///
     /// A breaker that sheds has no use for an [`Acquired`](Decision::Acquired) unit: after

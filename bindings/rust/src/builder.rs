@@ -133,16 +133,19 @@ impl CircuitBreakerBuilder {
     ///
     /// [`ThrottleError::Limit`] for a window or failures over 4,096.
     pub fn build<C: Clock>(self, clock: C) -> Result<CircuitBreaker<C>, ThrottleError> {
-        let setting = Setting {
+        Ok(CircuitBreaker {
+            owned: Mutex::new(Owned::build(self.setting())?),
+            clock,
+        })
+    }
+
+    pub(crate) fn setting(self) -> Setting {
+        Setting {
             cooldown_secs: self.cooldown.as_secs(),
             cooldown_nanos: self.cooldown.subsec_nanos(),
             trials: self.trials,
             required: self.required,
             ..self.trip.setting()
-        };
-        Ok(CircuitBreaker {
-            owned: Mutex::new(Owned::build(setting)?),
-            clock,
-        })
+        }
     }
 }

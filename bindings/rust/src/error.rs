@@ -50,6 +50,13 @@ pub enum ThrottleError {
     /// 11: a turn of a wait that has ended. (Also an unknown reply kind, which the types of this crate
     /// can't meet.)
     Turn,
+    /// 13: bytes that are no saves: a wrong length, sum, header, zero byte or body, a saved record that is
+    /// not sound, or a name that is there twice.
+    Damaged,
+    /// 14: saves of an unknown version.
+    Version,
+    /// 15: a name that is not 8 bytes of ASCII, that is absent, or already there; or no room for the save.
+    Name,
 }
 
 impl ThrottleError {
@@ -67,6 +74,9 @@ impl ThrottleError {
             Self::CostExceedsCapacity { .. } => number::COST_EXCEEDS_CAPACITY,
             Self::DeadlineExceeded => number::DEADLINE_EXCEEDED,
             Self::Turn => number::TURN,
+            Self::Damaged => number::DAMAGED,
+            Self::Version => number::VERSION,
+            Self::Name => number::NAME,
         }
     }
 }
@@ -93,6 +103,11 @@ impl fmt::Display for ThrottleError {
                 f.write_str("deadline passed before the request could be granted")
             }
             Self::Turn => f.write_str("a wait that has ended, or an unknown reply kind"),
+            Self::Damaged => f.write_str("saves that are damaged"),
+            Self::Version => f.write_str("saves of an unknown version"),
+            Self::Name => f.write_str(
+                "a name that is not 8 bytes of ASCII, absent or already there, or no room",
+            ),
         }
     }
 }
@@ -117,6 +132,9 @@ pub(crate) fn checked(told: Told) -> Result<Told, ThrottleError> {
             capacity: units(told.v2),
         },
         number::TURN => ThrottleError::Turn,
+        number::DAMAGED => ThrottleError::Damaged,
+        number::VERSION => ThrottleError::Version,
+        number::NAME => ThrottleError::Name,
         other => unreachable!("the C interface tells no number {other}"),
     })
 }

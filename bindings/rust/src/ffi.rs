@@ -7,6 +7,13 @@
 /// The places of a storage: PUDVIREZ_PLACES.
 pub const PLACES: usize = 4096;
 
+/// The bytes of a block of saves: PUDVIREZ_BLOCK.
+pub const BLOCK: usize = 512;
+/// The bytes of a name: PUDVIREZ_NAME.
+pub const NAME: usize = 8;
+/// The most bytes of a buffer of saves: PUDVIREZ_SAVES.
+pub const SAVES: usize = 65_536;
+
 /// What a call is told: PUDVIREZ_TOLD_.
 #[allow(dead_code)]
 pub mod told {
@@ -22,6 +29,9 @@ pub mod told {
     pub const DEADLINE_EXCEEDED: u32 = 9;
     pub const UNFINISHED: u32 = 10;
     pub const TURN: u32 = 11;
+    pub const DAMAGED: u32 = 13;
+    pub const VERSION: u32 = 14;
+    pub const NAME: u32 = 15;
 }
 
 /// PUDVIREZ_STATE_.
@@ -210,6 +220,24 @@ unsafe extern "C" {
         list: *mut u64,
         places: usize,
         setting: Setting,
+    ) -> Told;
+
+    pub fn pudvirez_reconfigure(
+        breaker: *mut Breaker,
+        list: *mut u64,
+        places: usize,
+        setting: Setting,
+    ) -> Told;
+
+    pub fn pudvirez_restore(
+        breaker: *mut Breaker,
+        list: *mut u64,
+        places: usize,
+        saves: *const u8,
+        size: usize,
+        used: usize,
+        name: *const u8,
+        name_size: usize,
     ) -> Told;
 
     pub fn pudvirez_admit_as(
@@ -419,6 +447,19 @@ unsafe extern "C" {
         inner_ms: u64,
         count: u32,
     ) -> Told;
+
+    pub fn pudvirez_save(
+        breaker: *const Breaker,
+        list: *const u64,
+        places: usize,
+        saves: *mut u8,
+        size: usize,
+        used: usize,
+        name: *const u8,
+        name_size: usize,
+    ) -> Told;
+
+    pub fn pudvirez_check_block(block: *const u8, size: usize) -> Told;
 
     pub fn pudvirez_board(breaker: *const Breaker, list: *const u64, places: usize) -> Told;
 

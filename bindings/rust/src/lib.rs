@@ -21,6 +21,7 @@
 
 mod breaker;
 mod builder;
+mod checkpoints;
 mod clock;
 mod decision;
 mod error;
@@ -32,6 +33,7 @@ mod waiting;
 
 pub use breaker::{BreakerState, CircuitBreaker};
 pub use builder::{CircuitBreakerBuilder, Trip};
+pub use checkpoints::Checkpoints;
 pub use clock::{Clock, ManualClock, SystemClock};
 pub use decision::Decision;
 pub use error::ThrottleError;

@@ -22,6 +22,33 @@ impl Owned {
         Ok(fresh)
     }
 
+    pub(crate) fn reconfigure(&mut self, setting: Setting) -> Result<(), ThrottleError> {
+        self.change(|b, list, n| unsafe { ffi::pudvirez_reconfigure(b, list, n, setting) })?;
+        Ok(())
+    }
+
+    /// Answers the used length after the save.
+    pub(crate) fn save(
+        &self,
+        saves: &mut [u8],
+        used: usize,
+        name: &[u8],
+    ) -> Result<usize, ThrottleError> {
+        let (room, size) = (saves.as_mut_ptr(), saves.len());
+        let told = self.read(|b, list, n| unsafe {
+            ffi::pudvirez_save(b, list, n, room, size, used, name.as_ptr(), name.len())
+        })?;
+        Ok(usize::try_from(told.v1).expect("no more than the size"))
+    }
+
+    pub(crate) fn restore(&mut self, saves: &[u8], name: &[u8]) -> Result<(), ThrottleError> {
+        let (first, size) = (saves.as_ptr(), saves.len());
+        self.change(|b, list, n| unsafe {
+            ffi::pudvirez_restore(b, list, n, first, size, size, name.as_ptr(), name.len())
+        })?;
+        Ok(())
+    }
+
     pub(crate) fn admit(&mut self, now_ms: u64) -> Result<Ticket, ThrottleError> {
         let plain = false.into();
         let told =

@@ -1,9 +1,9 @@
 -- `Tickets`: each write moves the generation by its transitions. Assumes nothing.
 use mathlib.Core.Path.{◌≡◌, refl, sym, ap, ◌∙◌}
-use mathlib.Core.Bool.{Bool, true, false, not, ◌&&◌, false≢true}
+use mathlib.Core.Bool.{Bool, true, false, not, ◌&&◌}
 use mathlib.Core.List.{List, [], ◌∷◌}
-use Prim.Native.Nat.{ℕ, zero, suc, ◌+◌, ◌-◌, ◌%◌, ◌^◌, ◌<◌, min}
-use native.Mathlib.Nat.{add-zero, zero-add}
+use Prim.Native.Nat.{ℕ, zero, suc, ◌+◌, ◌-◌, ◌^◌, min}
+use native.Mathlib.Nat.{add-zero}
 use native.Mathlib.Omega.{arith}
 use lib.Dec.{eqb, leb, ltb}
 use borrow.Author.Tests.{eqb-true, eq-eqb}
@@ -11,12 +11,11 @@ use Rattle.std.proofs.Common.{if◌then◌else◌}
 use Rattle.error.specs.Choice.{bit}
 use Rattle.error.specs.Told.{refused}
 use Rattle.error.specs.declared.Refusal.TheVariants.{Full}
-use Rattle.trip.specs.declared.Config.{Config}
 use Rattle.trip.specs.Policy.{tripped}
 use Rattle.breaker.specs.declared.Ticket.{Ticket}
 use Rattle.breaker.specs.Record.{Settings, State, Closed, HalfOpen, Open, settings}
-use Rattle.breaker.specs.Rules.{outcome, done, opening, with_history, next, nexts, Admitted, granted, shed, admit, via_trait, admit_as, ticket_of, half_opening, with_counts, one_more_trial, noted, settled, in_half_open, in_closed, aborted, released, manual, has_trait_probe, counting, closing, recorded, no_room, returned}
-use Rattle.breaker.specs.Transitions.{InForce, in_force, Write, admission, outcome_of, abort, release, manual_outcome, resetting, returning, new_settings, entered, writes, settles, transitions, all_written, all_transitions, Tickets, TicketsAgain}
+use Rattle.breaker.specs.Rules.{outcome, done, opening, with_history, next, nexts, Admitted, granted, shed, admit, via_trait, ticket_of, half_opening, with_counts, one_more_trial, noted, settled, in_half_open, in_closed, aborted, released, manual, has_trait_probe, counting, closing, recorded, no_room}
+use Rattle.breaker.specs.Transitions.{InForce, Write, admission, outcome_of, abort, release, manual_outcome, resetting, returning, new_settings, entered, writes, settles, transitions, all_written, all_transitions, Tickets, TicketsAgain}
 use Rattle.breaker.proofs.Generations.{another, the_same}
 
 nexts-one : (g : ℕ) → nexts 1 g ≡ next g

@@ -1,17 +1,16 @@
 -- A save and a return, from what was found in the buffer. Assumes nothing.
 use mathlib.Core.Path.{◌≡◌, refl, sym, ap, ap₂, subst, ◌∙◌}
-use mathlib.Core.Bool.{Bool, true, false, not, ◌&&◌, ◌||◌, false≢true}
+use mathlib.Core.Bool.{Bool, true, false, ◌||◌, false≢true}
 use mathlib.Core.List.{List, [], ◌∷◌, ◌++◌}
 use Prim.Native.Nat.{ℕ, ◌+◌, ◌-◌, ◌*◌, ◌/◌, ◌%◌, ◌<◌, ◌≤◌}
 use native.Mathlib.Omega.{arith}
-use lib.Dec.{leb, eqb}
 use lib.ListN.{length, take, drop, length-append}
 use lib.Seq.{take_at, drop_at, length-take-le}
 use borrow.Author.Tests.{le-leb, lt-leb}
 use Rattle.std.proofs.Common.{if◌then◌else◌}
 use Rattle.error.specs.Told.{refused, nothing}
 use Rattle.error.specs.declared.Refusal.{Refusal}
-use Rattle.error.specs.declared.Refusal.TheVariants.{Storage, Unsound, Name}
+use Rattle.error.specs.declared.Refusal.TheVariants.{Name}
 use Rattle.history.specs.Items.{padded}
 use Rattle.history.proofs.Laws.{take-drop}
 use Rattle.history.proofs.Sound as List·
@@ -24,7 +23,7 @@ use Rattle.breaker.specs.declared.Tested.TheVariants as TestedIs
 use Rattle.breaker.specs.Record.{State, state, stored, items_of, sound}
 use Rattle.breaker.specs.Rules.{done, returned}
 use Rattle.breaker.specs.Answers.{finished_told}
-use Rattle.breaker.specs.Calls.{After, after, kept, guarded}
+use Rattle.breaker.specs.Calls.{after, kept, guarded}
 use Rattle.breaker.proofs.Record.{sound→, stored-state, padded-state}
 use Rattle.breaker.proofs.Guard.{guarded-done}
 use Rattle.le_bytes.specs.Bytes.{written}

@@ -5,7 +5,7 @@ use mathlib.Core.List.{List, []}
 use Prim.Native.Nat.{ℕ}
 use lib.ListN.{length}
 use borrow.Author.Tests.{eq-eqb}
-use Rattle.error.specs.Told.{Told, nothing, refused}
+use Rattle.error.specs.Told.{refused}
 use Rattle.error.specs.declared.Refusal.{Refusal}
 use Rattle.error.proofs.OneToOne.{no-refusal}
 use Rattle.trip.specs.declared.Config.{Config}

@@ -1,45 +1,12 @@
 //! The archive's four calls of a save, as include/pudvirez.h has them.
 
-use archive::ffi::{Breaker, Counts, Setting, Shared, Told};
+use archive::ffi::{self, Breaker, Counts, Setting, Shared};
 use archive::plain_told;
 use throttle::plain::Answer;
 
 use crate::record::Record;
 use crate::setting;
 use crate::world::{Call, Engine, Op, World};
-
-unsafe extern "C" {
-    fn pudvirez_save(
-        breaker: *const Breaker,
-        list: *const u64,
-        places: usize,
-        saves: *mut u8,
-        size: usize,
-        used: usize,
-        name: *const u8,
-        name_size: usize,
-    ) -> Told;
-
-    fn pudvirez_restore(
-        breaker: *mut Breaker,
-        list: *mut u64,
-        places: usize,
-        saves: *const u8,
-        size: usize,
-        used: usize,
-        name: *const u8,
-        name_size: usize,
-    ) -> Told;
-
-    fn pudvirez_reconfigure(
-        breaker: *mut Breaker,
-        list: *mut u64,
-        places: usize,
-        setting: Setting,
-    ) -> Told;
-
-    fn pudvirez_check_block(block: *const u8, size: usize) -> Told;
-}
 
 /// The archive that is linked.
 pub struct Archive;
@@ -71,7 +38,7 @@ impl Engine for Archive {
 fn save(breaker: &Breaker, list: &[u64], saves: &mut [u8], used: usize, name: &[u8]) -> Answer {
     // SAFETY: all are slices, and nothing overlaps.
     plain_told(unsafe {
-        pudvirez_save(
+        ffi::pudvirez_save(
             breaker,
             list.as_ptr(),
             list.len(),
@@ -93,7 +60,7 @@ fn restore(
 ) -> Answer {
     // SAFETY: as for a save.
     plain_told(unsafe {
-        pudvirez_restore(
+        ffi::pudvirez_restore(
             breaker,
             list.as_mut_ptr(),
             list.len(),
@@ -109,13 +76,13 @@ fn restore(
 fn reconfigure(breaker: &mut Breaker, list: &mut [u64], new: &setting::Setting) -> Answer {
     // SAFETY: as for a save.
     plain_told(unsafe {
-        pudvirez_reconfigure(breaker, list.as_mut_ptr(), list.len(), setting(new))
+        ffi::pudvirez_reconfigure(breaker, list.as_mut_ptr(), list.len(), setting(new))
     })
 }
 
 fn check(block: &[u8]) -> Answer {
     // SAFETY: as for a save.
-    plain_told(unsafe { pudvirez_check_block(block.as_ptr(), block.len()) })
+    plain_told(unsafe { ffi::pudvirez_check_block(block.as_ptr(), block.len()) })
 }
 
 fn setting(from: &setting::Setting) -> Setting {

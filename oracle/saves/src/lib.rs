@@ -1,7 +1,7 @@
 //! Saves of a breaker in blocks of 512 bytes, from document 02 (W-201) and document 01's record
 //! alone: what the calls tell and leave.
 
-#[cfg(all(archive, feature = "saves_archive"))]
+#[cfg(archive)]
 pub mod archive;
 pub mod block;
 pub mod body;

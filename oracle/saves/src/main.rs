@@ -78,15 +78,14 @@ fn against(rival: &mut dyn saves::world::Engine, seed: u64, count: u64) -> io::R
     }
 }
 
-#[cfg(all(archive, feature = "saves_archive"))]
+#[cfg(archive)]
 fn with_archive(seed: u64, count: u64) -> io::Result<ExitCode> {
     against(&mut saves::archive::Archive, seed, count)
 }
 
-#[cfg(not(all(archive, feature = "saves_archive")))]
+#[cfg(not(archive))]
 fn with_archive(_: u64, _: u64) -> io::Result<ExitCode> {
-    let what = "built without an archive: name one in PUDVIREZ_ARCHIVE and build again \
-                with --features saves_archive";
+    let what = "built without an archive: name one in PUDVIREZ_ARCHIVE and build again";
     Err(io::Error::other(what))
 }
 

@@ -1,6 +1,6 @@
-//! Random buffers on the archive, if one with these calls is linked.
+//! Random buffers on the archive, if one is linked.
 
-#![cfg(all(archive, feature = "saves_archive"))]
+#![cfg(archive)]
 
 use saves::archive::Archive;
 use saves::compare::compare;

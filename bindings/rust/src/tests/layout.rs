@@ -31,9 +31,14 @@ macro_rules! numbers {
 
 fn rust_side() -> Vec<String> {
     let parts = [
-        vec![format!("PUDVIREZ_PLACES {PLACES}")],
+        vec![
+            format!("PUDVIREZ_PLACES {PLACES}"),
+            format!("PUDVIREZ_BLOCK {BLOCK}"),
+            format!("PUDVIREZ_NAME {NAME}"),
+            format!("PUDVIREZ_SAVES {SAVES}"),
+        ],
         numbers!(told: OK, TIME, LIMIT, STORAGE, UNSOUND, FULL, CIRCUIT_OPEN, INNER_RETRY,
-            COST_EXCEEDS_CAPACITY, DEADLINE_EXCEEDED, UNFINISHED, TURN),
+            COST_EXCEEDS_CAPACITY, DEADLINE_EXCEEDED, UNFINISHED, TURN, DAMAGED, VERSION, NAME),
         numbers!(state: CLOSED, HALF_OPEN, OPEN),
         numbers!(policy: CONSECUTIVE, RATIO, WINDOWED),
         numbers!(decision: ACQUIRED, RETRY, IMPOSSIBLE),
@@ -82,11 +87,11 @@ fn c_side() -> Vec<String> {
 /// The names that the header declares: numbers, structs, and their fields, each struct after its fields.
 fn declared() -> Vec<String> {
     let header = std::fs::read_to_string(include().join("pudvirez.h")).expect("the header");
-    let mut names = vec!["PUDVIREZ_PLACES".to_owned()];
-    let mut fields = Vec::new();
+    let (mut names, mut fields) = (Vec::new(), Vec::new());
     for line in header.lines() {
         let code = line.split("/*").next().unwrap_or_default().trim();
-        if let (true, Some((name, _))) = (code.starts_with("PUDVIREZ_"), code.split_once(" = ")) {
+        let code = code.strip_prefix("#define ").unwrap_or(code);
+        if let (true, Some((name, _))) = (code.starts_with("PUDVIREZ_"), code.split_once(' ')) {
             names.push(name.to_owned());
         } else if let Some(name) = code.strip_prefix("} Pudvirez") {
             let whole = format!("Pudvirez{}", name.trim_end_matches(';'));

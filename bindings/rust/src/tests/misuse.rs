@@ -22,7 +22,13 @@ const SETTING: Setting = Setting {
 };
 
 /// Every call of the header that changes a breaker which is there already.
-const CHANGES: [(&str, Call); 15] = [
+const CHANGES: [(&str, Call); 17] = [
+    ("reconfigure", |b, l, n| unsafe {
+        pudvirez_reconfigure(b, l, n, SETTING)
+    }),
+    ("restore", |b, l, n| {
+        restore(b, l, n, &saves(), (BLOCK, BLOCK))
+    }),
     ("admit_as", |b, l, n| unsafe {
         pudvirez_admit_as(b, l, n, 5, 0)
     }),
@@ -67,7 +73,8 @@ const CHANGES: [(&str, Call); 15] = [
 ];
 
 /// And those that read.
-const READS: [(&str, Call); 6] = [
+const READS: [(&str, Call); 7] = [
+    ("save", |b, l, n| save(b, l, n, &mut [0; BLOCK], (BLOCK, 0))),
     ("still_admits", |b, l, n| unsafe {
         pudvirez_still_admits(b, l, n, 5, TICKET)
     }),
@@ -100,6 +107,61 @@ const UNKNOWN: [(&str, Call); 5] = [
         pudvirez_available(b, l, n, 5, 9, 0, 3)
     }),
 ];
+
+/// New settings over the limit, and the calls of a save with a buffer of 511 bytes.
+const REFUSED: [(&str, Call); 3] = [
+    ("reconfigure", |b, l, n| unsafe {
+        let limit = 4097;
+        pudvirez_reconfigure(b, l, n, Setting { limit, ..SETTING })
+    }),
+    ("restore", |b, l, n| restore(b, l, n, &saves(), (511, 0))),
+    ("save", |b, l, n| save(b, l, n, &mut saves(), (511, 0))),
+];
+
+/// All of these, with what would be refused for another reason too.
+fn all_calls() -> impl Iterator<Item = &'static (&'static str, Call)> {
+    let right = CHANGES.iter().chain(&READS);
+    right.chain(&UNKNOWN).chain(&REFUSED)
+}
+
+const NAMED: &[u8; NAME] = b"EVENING1";
+
+/// A block with a save of the start, under the name.
+fn saves() -> Vec<u8> {
+    let (mut b, mut list) = start();
+    let mut bytes = vec![0; BLOCK];
+    let told = save(&mut b, list.as_mut_ptr(), PLACES, &mut bytes, (BLOCK, 0));
+    assert_eq!((told.number, told.v1), (0, 512));
+    bytes
+}
+
+/// Saves under the name, in bytes of this size with so many used. A refused save leaves the bytes.
+fn save(
+    b: *mut Breaker,
+    l: *mut u64,
+    n: usize,
+    bytes: &mut [u8],
+    (size, used): (usize, usize),
+) -> Told {
+    let before = bytes.to_vec();
+    let (room, name) = (bytes.as_mut_ptr(), NAMED.as_ptr());
+    assert!(size <= bytes.len());
+    let told = unsafe { pudvirez_save(b, l, n, room, size, used, name, NAME) };
+    assert!(told.number == 0 || bytes == before, "the bytes");
+    told
+}
+
+fn restore(
+    b: *mut Breaker,
+    l: *mut u64,
+    n: usize,
+    bytes: &[u8],
+    (size, used): (usize, usize),
+) -> Told {
+    let name = NAMED.as_ptr();
+    assert!(size <= bytes.len());
+    unsafe { pudvirez_restore(b, l, n, bytes.as_ptr(), size, used, name, NAME) }
+}
 
 /// One answer whose number is not 0 yet, so that a write to it shows.
 fn finish_all(b: *mut Breaker, l: *mut u64, n: usize, marks: usize) -> (Told, u64) {
@@ -228,7 +290,7 @@ pub(super) fn unsound() -> Vec<(Breaker, Vec<u64>)> {
 fn another_number_of_places_is_told_3() {
     let start = start();
     for count in [0, 1, PLACES - 1, PLACES + 1] {
-        for (name, call) in CHANGES.iter().chain(&READS).chain(&UNKNOWN) {
+        for (name, call) in all_calls() {
             refused(name, 3, count, &start, call);
         }
         refused("build", 3, count, &start, |b, l, n| unsafe {
@@ -258,7 +320,7 @@ fn counts_that_differ_are_told_3() {
 fn a_breaker_that_is_not_sound_is_told_4() {
     for broken in unsound() {
         assert!(!unsafe { pudvirez_is_sound(&broken.0, broken.1.as_ptr(), PLACES) });
-        for (name, call) in CHANGES.iter().chain(&READS).chain(&UNKNOWN) {
+        for (name, call) in all_calls() {
             refused(name, 4, PLACES, &broken, call);
         }
         refused("finish_all", 4, PLACES, &broken, |b, l, n| {
@@ -340,6 +402,89 @@ fn a_build_that_is_refused_leaves_all() {
     for (number, setting) in wrong {
         refused("build", number, PLACES, &start(), |b, l, n| unsafe {
             pudvirez_build(b, l, n, setting)
+        });
+    }
+}
+
+/// Settings that are refused, and the number.
+const WRONG: [(u32, Setting); 6] = [
+    (4, Setting { kind: 9, ..SETTING }),
+    (
+        4,
+        Setting {
+            kind: 0,
+            cooldown_nanos: 1_000_000_000,
+            limit: 4097,
+            ..SETTING
+        },
+    ),
+    (
+        1,
+        Setting {
+            cooldown_nanos: 1_000_000_000,
+            limit: 4097,
+            ..SETTING
+        },
+    ),
+    (
+        1,
+        Setting {
+            kind: 3,
+            period_nanos: u32::MAX,
+            ..SETTING
+        },
+    ),
+    (
+        2,
+        Setting {
+            limit: 4097,
+            ..SETTING
+        },
+    ),
+    (
+        2,
+        Setting {
+            kind: 3,
+            limit: u32::MAX,
+            ..SETTING
+        },
+    ),
+];
+
+#[test]
+fn new_settings_that_are_refused_leave_all() {
+    for (number, setting) in WRONG {
+        refused("reconfigure", number, PLACES, &start(), |b, l, n| unsafe {
+            pudvirez_reconfigure(b, l, n, setting)
+        });
+    }
+}
+
+/// Used bytes past the buffer, sizes that are not whole blocks, and over 65,536 bytes. No bytes are no saves.
+#[test]
+fn wrong_sizes_of_saves_are_told_13_and_a_name_15() {
+    let sizes = [
+        (13, (512, 1024)),
+        (13, (512, usize::MAX)),
+        (13, (511, 0)),
+        (13, (1024, 511)),
+        (13, (SAVES + BLOCK, 0)),
+        (13, (SAVES + BLOCK, 512)),
+        (15, (0, 0)),
+    ];
+    let mut bytes = saves();
+    bytes.resize(SAVES + BLOCK, 0);
+    for (number, sizes) in sizes {
+        refused("restore", number, PLACES, &start(), |b, l, n| {
+            restore(b, l, n, &bytes, sizes)
+        });
+        refused("save", number, PLACES, &start(), |b, l, n| {
+            save(b, l, n, &mut bytes.clone(), sizes)
+        });
+    }
+    for sizes in [(512, 512), (SAVES, 512)] {
+        refused("save", 15, PLACES, &start(), |b, l, n| {
+            save(b, l, n, &mut bytes.clone(), sizes)
         });
     }
 }

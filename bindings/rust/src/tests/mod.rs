@@ -1,11 +1,13 @@
 //! Tests that look into the record. Those of the public side alone stand in the documentation.
 mod cases;
+mod checkpoints;
 mod flags;
 mod layout;
 mod misuse;
 mod orders;
 mod panics;
 mod previews;
+mod saved_bytes;
 mod threads;
 mod wait_rows;
 mod waits;

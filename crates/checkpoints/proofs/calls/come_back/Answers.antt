@@ -1,11 +1,10 @@
 -- `checkpoints::calls::come_back` meets its contract: the run that is found is the save's, and its body is read again. Assumes nothing.
 use Prim.Native.Nat.{ℕ, ◌/◌}
-use mathlib.Core.Path.{◌≡◌, sym, subst, ◌∙◌}
+use mathlib.Core.Path.{◌≡◌, subst, ◌∙◌}
 use mathlib.Core.Bool.{true}
 use mathlib.Core.List.{List, ◌++◌}
 use native.Mathlib.Omega.{arith}
 use lib.ListN.{length, take}
-use lib.Seq.{length-take-le}
 use borrow.Author.Rules.{rules}
 use Rattle.blocks.specs.Block.{summed}
 use Rattle.blocks.specs.declared.Found.{Found}

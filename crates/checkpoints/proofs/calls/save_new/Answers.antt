@@ -2,13 +2,13 @@
 use Prim.Native.Nat.{ℕ, ◌+◌, ◌*◌, ◌≤◌}
 use mathlib.Core.Path.{◌≡◌, sym, ap, ◌∙◌}
 use native.Mathlib.Omega.{arith}
-use lib.ListN.{length, take}
+use lib.ListN.{take}
 use lib.Seq.{length-take-le}
 use borrow.Author.Rules.{rules}
 use Rattle.blocks.specs.Run.{count_of, put_run}
 use Rattle.body.specs.Save.{size_of}
 use Rattle.checkpoints.specs.declared.Saving.TheVariants.{Saved}
-use Rattle.checkpoints.specs.Calls.{save_after, saving_told, saved_new}
+use Rattle.checkpoints.specs.Calls.{save_after, saving_told}
 use Rattle.checkpoints.proofs.Making.{sound-size, new-room, new-saved}
 use Rattle.checkpoints.proofs.calls.save_new.Goals.{After-size-long, After-count_of-blocks}
 use Rattle.checkpoints.proofs.calls.save_new.Goals as goal
