@@ -1,6 +1,6 @@
 //! A desk saves its breaker before it moves to new settings, keeps the save in a file, and comes back.
 //!
-//!     rt staticlib capi
+//!     tools/archive                          # at the top of the repository
 //!     cargo run --example checkpoints        # in bindings/rust
 //!
 //! A call from before the move has no effect, neither on the new settings nor on what came back.
