@@ -7,8 +7,6 @@ ghost use Rattle.std.specs.Prelude.{◌≡◌, ◌≤◌, ◌<◌, min, length};
 
 use history::PLACES;
 use journal::{ROOM, Replayed};
-use std::io;
-use std::io::{Read, Write};
 
 // Where a journal begins, where its expected output does, and where that ends.
 #[derive(Clone, Copy)]
@@ -136,25 +134,8 @@ fn run(rt: &HostRuntime, s: &[u8]) {
     replay_all(rt, s, &mut list, &mut out);
 }
 
-// Reads until the buffer is full, the input ends or a read fails, and tells how many bytes came.
-fn read_full<R: Read>(input: &mut R, buf: &mut [u8]) -> usize
-    ensures { result ≤ length buf.new }
-{
-    let mut n: usize = 0;
-    while n < buf.len() {
-        let Ok(came) = input.read(&mut buf[n..]) else {
-            return n;
-        };
-        if came == 0 {
-            return n;
-        }
-        n += came;
-    }
-    n
-}
-
 fn main(rt: HostRuntime) {
     let mut input = input_buffer();
-    let n = read_full(&mut rt.stdin(), &mut input);
+    let n = input::read_full(&mut rt.stdin(), &mut input);
     run(&rt, &input[..n]);
 }

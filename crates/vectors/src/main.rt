@@ -1,8 +1,6 @@
 // Replays the samples of calls and of waits with the answers that the Rust gave (oracle/README.md, seed 1), and counts the lines that differ.
 #![tactic(auto)]
 
-ghost use Rattle.std.specs.Prelude.{◌≤◌, length};
-
 mod calls;
 mod columns;
 mod compare;
@@ -17,7 +15,6 @@ mod tallies;
 use compare::{Places, Want, nothing_wanted, places};
 use lines::{blank_line, line_end, numbers};
 use make::Ours;
-use std::io::Read;
 use tallies::{DIFFERENCES, MISSES, Tallies, no_tallies, show, tally};
 
 // Room for the samples. What does not fit is cut, and its counts differ.
@@ -58,26 +55,9 @@ fn replay_all(rt: &HostRuntime, s: &[u8], t: &mut Tallies) {
     }
 }
 
-// Reads until the buffer is full, the input ends or a read fails, and tells how many bytes came.
-fn read_full<R: Read>(input: &mut R, buf: &mut [u8]) -> usize
-    ensures { result ≤ length buf.new }
-{
-    let mut n: usize = 0;
-    while n < buf.len() {
-        let Ok(came) = input.read(&mut buf[n..]) else {
-            return n;
-        };
-        if came == 0 {
-            return n;
-        }
-        n += came;
-    }
-    n
-}
-
 fn main(rt: HostRuntime) {
     let mut input = input_buffer();
-    let n = read_full(&mut rt.stdin(), &mut input);
+    let n = input::read_full(&mut rt.stdin(), &mut input);
     let mut t = no_tallies();
     replay_all(&rt, &input[..n], &mut t);
     tallies::show_tallies(&rt, &t);

@@ -1,6 +1,6 @@
--- `buffers::read_full` ends: each read that brings something leaves less room. Assumes nothing.
+-- `input::read_full` ends: each read that brings something leaves less room. Assumes nothing.
 use Rattle.std.proofs.Common.{◌-◌, ◌≤◌, length}
-use Rattle.buffers.proofs.read_full.Given as goal
+use Rattle.input.proofs.read_full.Given as goal
 
 abbrev pub invariant-loop-n : goal.invariant-loop-n
 invariant-loop-n g l = l.n ≤ length l.buf
