@@ -11,12 +11,12 @@ printf 'error:\nhistory: error\nleaves staticlib: error history\n' > "$work/crat
 cat > "$work/crates/leaves/src/lib.rt" <<'RT'
 #![tactic(auto)]
 
-use history::Changed;
+use error::Refusal;
 use history::Items;
-fn number(c: Changed) -> u32 {
+fn number(c: Result<u32, Refusal>) -> u32 {
     match c {
-        Changed::Stored(n) => n,
-        Changed::Refused(r) => 10000 + error::number(r) % 16,
+        Ok(n) => n,
+        Err(r) => 10000 + r.number() % 16,
     }
 }
 #[unsafe(no_mangle)]

@@ -1,113 +1,109 @@
 // The trait side (`impl Limiter for CircuitBreaker` in circuit.rs of the Rust): the inner limiter's replies are handed in.
-ghost use Rattle.std.specs.Prelude.{◌≡◌};
+ghost use Rattle.std.specs.Prelude.{◌≡◌, true, if◌then◌else◌};
 ghost use Rattle.breaker.specs.Answers.{notice_told, decided_told, reserved_told, counted_told};
+ghost use Rattle.breaker.specs.Rules.{aborted};
 ghost use Rattle.breaker.specs.Calls as Calls;
-ghost use Rattle.breaker.specs.Calls.{after, on_sound, asked};
+ghost use Rattle.breaker.specs.Calls.{by_value, on_sound, asked};
+ghost use Rattle.steps.specs.Steps.{Applies};
 
-use breaker::{
-    Acquisition, Breaker, Counted, Decided, Decision, Notice, Noticed, Reservation, Reserved,
-    Reserving, Tested, test,
-};
-use steps::{Entry, abort_locked, admit_as_locked, admit_locked, release_locked};
+use breaker::{Answered, Breaker, Decision, Delay, Ticket, test};
+use error::Refusal;
+use steps::{abort_locked, admit_as_locked, admit_locked, release_locked};
 
 // A shed as a retry with its delay, else the inner limiter's peek; no transition is made.
 // Ruled out: an Open breaker past its cooldown that still refuses; the inner limiter's answer forgotten.
-pub fn peek(breaker: Breaker, list: &[u64], now_ms: u64, inner: Decision) -> Decided
+#[tactic(auto, unfolding(breaker::specs::Calls::asked))]
+pub fn peek(
+    breaker: Breaker,
+    list: &[u64],
+    now_ms: u64,
+    inner: Decision,
+) -> Result<Decision, Refusal>
     ensures { decided_told result ≡ asked (Calls.peek inner now_ms) breaker list.now }
 {
-    match test(breaker, list) {
-        Tested::Refused(r) => Decided::Refused(r),
-        Tested::Sound => match admit_locked(breaker, now_ms) {
-            Entry::Shed(d) => Decided::Is(Decision::Retry(d)),
-            Entry::Granted(_, _) => Decided::Is(inner),
-        },
+    test(breaker, list)?;
+    match admit_locked(breaker, now_ms) {
+        Ok(_) => Ok(inner),
+        Err(delay) => Ok(Decision::Retry(delay)),
     }
+}
+
+// The record after an admission through the trait side: where the inner limiter did not acquire, the admission is given back.
+fn handed_on(admitted: Answered<Ticket>, acquired: bool) -> Breaker
+    ensures { Applies (λ c st. if acquired then st else aborted admitted.answer true st) admitted.breaker result }
+{
+    if acquired {
+        return admitted.breaker;
+    }
+    abort_locked(admitted.breaker, admitted.answer, true)
 }
 
 // Admits through the trait side, with the inner limiter's reply.
 // Ruled out: a shed told as number 6; a trait probe kept after an inner retry.
-pub fn acquire_cost(breaker: Breaker, list: &mut [u64], now_ms: u64, inner: Decision) -> Acquisition
-    ensures { after (decided_told result.answer) result.breaker list.new ≡ on_sound (Calls.acquire_cost inner now_ms) breaker list.old }
+#[tactic(auto, unfolding(breaker::specs::Calls::on_sound))]
+pub fn acquire_cost(
+    breaker: Breaker,
+    list: &[u64],
+    now_ms: u64,
+    inner: Decision,
+) -> Result<Answered<Decision>, Refusal>
+    ensures { by_value decided_told result breaker list.now ≡ on_sound (Calls.acquire_cost inner now_ms) breaker list.now }
 {
-    match test(breaker, list) {
-        Tested::Refused(r) => Acquisition {
-            answer: Decided::Refused(r),
+    test(breaker, list)?;
+    match admit_as_locked(breaker, now_ms, true) {
+        Err(delay) => Ok(Answered {
+            answer: Decision::Retry(delay),
             breaker,
-        },
-        Tested::Sound => match admit_as_locked(breaker, now_ms, true) {
-            Entry::Shed(d) => Acquisition {
-                answer: Decided::Is(Decision::Retry(d)),
-                breaker,
-            },
-            Entry::Granted(t, next) => match inner {
-                Decision::Acquired => Acquisition {
-                    answer: Decided::Is(inner),
-                    breaker: next,
-                },
-                Decision::Retry(_) => Acquisition {
-                    answer: Decided::Is(inner),
-                    breaker: abort_locked(next, t, true),
-                },
-                Decision::Impossible => Acquisition {
-                    answer: Decided::Is(inner),
-                    breaker: abort_locked(next, t, true),
-                },
-            },
-        },
+        }),
+        Ok(admitted) => Ok(Answered {
+            answer: inner,
+            breaker: handed_on(admitted, inner.is_acquired()),
+        }),
     }
 }
 
 // Reserves through the trait side, with the inner limiter's reply.
 // Ruled out: a shed that hands on the inner wait; a probe kept without a reservation.
-pub fn reserve(breaker: Breaker, list: &mut [u64], now_ms: u64, inner: Reservation) -> Reserving
-    ensures { after (reserved_told result.answer) result.breaker list.new ≡ on_sound (Calls.reserve inner now_ms) breaker list.old }
+#[tactic(auto, unfolding(breaker::specs::Calls::on_sound))]
+pub fn reserve(
+    breaker: Breaker,
+    list: &[u64],
+    now_ms: u64,
+    inner: Option<Delay>,
+) -> Result<Answered<Option<Delay>>, Refusal>
+    ensures { by_value reserved_told result breaker list.now ≡ on_sound (Calls.reserve inner now_ms) breaker list.now }
 {
-    match test(breaker, list) {
-        Tested::Refused(r) => Reserving {
-            answer: Reserved::Refused(r),
+    test(breaker, list)?;
+    match admit_as_locked(breaker, now_ms, true) {
+        Err(_) => Ok(Answered {
+            answer: None,
             breaker,
-        },
-        Tested::Sound => match admit_as_locked(breaker, now_ms, true) {
-            Entry::Shed(_) => Reserving {
-                answer: Reserved::Is(Reservation::Nothing),
-                breaker,
-            },
-            Entry::Granted(t, next) => match inner {
-                Reservation::Wait(_) => Reserving {
-                    answer: Reserved::Is(inner),
-                    breaker: next,
-                },
-                Reservation::Nothing => Reserving {
-                    answer: Reserved::Is(inner),
-                    breaker: abort_locked(next, t, true),
-                },
-            },
-        },
+        }),
+        Ok(admitted) => Ok(Answered {
+            answer: inner,
+            breaker: handed_on(admitted, inner.is_some()),
+        }),
     }
 }
 
 // The inner limiter's count, if its peek of 0 was acquired and the breaker would admit.
 // Ruled out: a count while the breaker sheds; the count of a refused inner peek.
+#[tactic(auto, unfolding(breaker::specs::Calls::asked))]
 pub fn available(
     breaker: Breaker,
     list: &[u64],
     now_ms: u64,
     inner: Decision,
     count: u32,
-) -> Counted
+) -> Result<u64, Refusal>
     ensures { counted_told result ≡ asked (Calls.available inner count now_ms) breaker list.now }
 {
-    match test(breaker, list) {
-        Tested::Refused(r) => Counted::Refused(r),
-        Tested::Sound => match admit_locked(breaker, now_ms) {
-            Entry::Shed(_) => Counted::Count(0),
-            Entry::Granted(_, _) => match inner {
-                Decision::Acquired => Counted::Count(count as u64),
-                Decision::Retry(_) => Counted::Count(0),
-                Decision::Impossible => Counted::Count(0),
-            },
-        },
-    }
+    let peeked = peek(breaker, list, now_ms, inner)?;
+    Ok(if peeked.is_acquired() {
+        u64::from(count)
+    } else {
+        0
+    })
 }
 
 // Charging is the inner limiter's business: its answer is handed on.
@@ -120,17 +116,13 @@ pub fn charge(inner: u32) -> u32
 
 // Frees a trait trial, with a notice to refund the cost to the inner limiter.
 // Ruled out: no notice in Closed; a refund of 1 whatever the cost.
-pub fn refund(breaker: Breaker, list: &mut [u64], cost: u32) -> Noticed
-    ensures { after (notice_told result.answer) result.breaker list.new ≡ on_sound (Calls.refund cost) breaker list.old }
+#[tactic(auto, unfolding(breaker::specs::Calls::on_sound))]
+pub fn refund(breaker: Breaker, list: &[u64], cost: u32) -> Result<Answered<u32>, Refusal>
+    ensures { by_value notice_told result breaker list.now ≡ on_sound (Calls.refund cost) breaker list.now }
 {
-    match test(breaker, list) {
-        Tested::Refused(r) => Noticed {
-            answer: Notice::Refused(r),
-            breaker,
-        },
-        Tested::Sound => Noticed {
-            answer: Notice::Refund(cost),
-            breaker: release_locked(breaker),
-        },
-    }
+    test(breaker, list)?;
+    Ok(Answered {
+        answer: cost,
+        breaker: release_locked(breaker),
+    })
 }

@@ -13,7 +13,7 @@ use Rattle.history.specs.Items.{padded}
 use Rattle.trip.specs.declared.Config.{Config}
 use Rattle.breaker.specs.declared.Ticket.{Ticket}
 use Rattle.breaker.specs.declared.Breaker.{Breaker}
-use Rattle.breaker.specs.declared.Tested.TheVariants.{Sound, Refused}
+use Rattle.std.proofs.Common.{Ok, Err}
 use Rattle.breaker.specs.Record.{State, settings, state, stored, sound}
 use Rattle.breaker.specs.Rules.{done, settled, aborted, finish}
 use Rattle.breaker.specs.Calls.{After, after, kept, guarded}
@@ -110,7 +110,7 @@ module _ (reading : ℕ) (x : Slices) (b : Breaker) (s answers : List ℕ) where
   unfolding finished_all
   batch-unlike e = simp e
 
-  pub batch-refused : alike x answers ≡ true → (r : Refusal) → Refused r ≡ guarded Refused Sound b s → batch (after (refused r) b s) answers ≡ finished_all reading x b s answers
+  pub batch-refused : alike x answers ≡ true → (r : Refusal) → Err r ≡ guarded Err (Ok (tt {0})) b s → batch (after (refused r) b s) answers ≡ finished_all reading x b s answers
   unfolding finished_all
   batch-refused e r k = simp e (guarded-refused (λ r. batch (after (refused r) b s) answers) _ b s r k)
 

@@ -2,19 +2,40 @@
 #![tactic(auto)]
 
 ghost use Rattle.std.specs.Prelude.{◌≡◌, true, length};
-ghost use Rattle.breaker.specs.Record.{HalfOpen, sound};
-ghost use Rattle.breaker.specs.Answers.{finished_told};
+ghost use Rattle.error.specs.Told.{nothing};
+ghost use Rattle.trip.specs.declared.Config.{Config};
+ghost use Rattle.breaker.specs.Record.{HalfOpen, State, settings, sound};
+ghost use Rattle.breaker.specs.Rules as Rules;
 ghost use Rattle.breaker.specs.Rules.{done};
-ghost use Rattle.breaker.specs.Calls.{after, kept};
+ghost use Rattle.breaker.specs.Calls.{after, done_by_value, kept};
 ghost use Rattle.breaker.specs.Orders.{FinishingOrders, in_turn};
-ghost use Rattle.breaker.specs.Batch.{batch, slices, calls, numbers, finished_all};
+ghost use Rattle.breaker.specs.Batch.{batch, slices, call_by, calls, numbers, finished_all};
+ghost use Rattle.steps.specs.Steps.{Holds};
 
-use breaker::{Breaker, CLOSED, Finished, Settled, Tested, Ticket, test};
+use breaker::{Breaker, Ticket, test};
 use error::Refusal;
-use outcomes::{Recorded, settle_closed, settle_unclosed};
-use steps::{abort_locked, opened, with_history};
+use outcomes::settle_locked;
+use steps::abort_locked;
 
-// The calls in turn: each gets what the one before it left.
+// One call: a settle with success or failure by the mark, or an abort through the trait side or not.
+fn finish(
+    b: Breaker,
+    list: &mut [u64],
+    now_ms: u64,
+    ticket: Ticket,
+    settles: bool,
+    mark: bool,
+) -> Result<Breaker, Refusal>
+    ensures { sound b list.old ≡ true → (c : Config) (st : State) → Holds c st b list.old
+        → done_by_value result b list.new ≡ kept c (Rules.finish (settings c) now_ms (call_by ticket settles mark) st) }
+{
+    if settles {
+        return settle_locked(b, list, now_ms, ticket, mark);
+    }
+    Ok(abort_locked(b, ticket, mark))
+}
+
+// The calls in turn: each gets what the one before it left. The slices stay apart, since C lends them so.
 fn finish_each(
     start: Breaker,
     list: &mut [u64],
@@ -28,43 +49,23 @@ fn finish_each(
     requires sound_start { sound start list.old ≡ true }
     requires equal_lengths { (length probes.now ≡ length generations.now) × (length settles.now ≡ length generations.now)
         × (length marks.now ≡ length generations.now) × (length answers.old ≡ length generations.now) }
-    ensures { batch (after (finished_told Finished.Done) result list.new) answers.new
+    ensures { batch (after nothing result list.new) answers.new
         ≡
         (let ran = in_turn now_ms start list.old (calls (slices generations.now probes.now settles.now marks.now)) in
         batch (kept start.config (done ran.after)) (numbers ran.answers)) }
 {
     let mut b = start;
-    let mut i: usize = 0;
-    while i < generations.len() {
-        let t = Ticket {
-            generation: generations[i],
-            probe: probes[i] != 0,
-        };
-        let mark = marks[i] != 0;
-        if settles[i] == 0 {
-            b = abort_locked(b, t, mark);
-            answers[i] = 0;
-        } else if b.shared.state != CLOSED {
-            b = settle_unclosed(b, list, now_ms, t, mark);
-            answers[i] = 0;
-        } else if t.generation != b.shared.generation {
-            answers[i] = 0;
-        } else {
-            match settle_closed(b, list, now_ms, mark) {
-                Recorded::Refused(r) => {
-                    answers[i] = error::number(r) as u64;
-                }
-                Recorded::Counted(change) => {
-                    b = with_history(b, change.run, change.len);
-                    answers[i] = 0;
-                }
-                Recorded::Tripped(change) => {
-                    b = opened(with_history(b, change.run, change.len), now_ms);
-                    answers[i] = 0;
-                }
+    for i in 0..generations.len() {
+        let generation = generations[i];
+        let probe = probes[i] != 0;
+        let ticket = Ticket { generation, probe };
+        match finish(b, list, now_ms, ticket, settles[i] != 0, marks[i] != 0) {
+            Ok(next) => {
+                b = next;
+                answers[i] = 0;
             }
+            Err(refusal) => answers[i] = u64::from(refusal.number()),
         }
-        i += 1;
     }
     b
 }
@@ -82,54 +83,25 @@ pub fn finish_all(
     settles: &[u8],
     marks: &[u8],
     answers: &mut [u64],
-) -> Settled
-    ensures answers_after { batch (after (finished_told result.answer) result.breaker list.new) answers.new
+) -> Result<Breaker, Refusal>
+    ensures answers_after { batch (done_by_value result breaker list.new) answers.new
         ≡ finished_all now_ms (slices generations.now probes.now settles.now marks.now) breaker
         list.old answers.old }
     ensures orders { sound breaker list.old ≡ true → breaker.shared.state ≡ HalfOpen → FinishingOrders now_ms breaker list.old }
 {
     let n = generations.len();
-    if probes.len() != n {
-        return Settled {
-            answer: Finished::Refused(Refusal::Storage),
-            breaker,
-        };
+    if probes.len() != n || settles.len() != n || marks.len() != n || answers.len() != n {
+        return Err(Refusal::Storage);
     }
-    if settles.len() != n {
-        return Settled {
-            answer: Finished::Refused(Refusal::Storage),
-            breaker,
-        };
-    }
-    if marks.len() != n {
-        return Settled {
-            answer: Finished::Refused(Refusal::Storage),
-            breaker,
-        };
-    }
-    if answers.len() != n {
-        return Settled {
-            answer: Finished::Refused(Refusal::Storage),
-            breaker,
-        };
-    }
-    match test(breaker, list) {
-        Tested::Refused(r) => Settled {
-            answer: Finished::Refused(r),
-            breaker,
-        },
-        Tested::Sound => Settled {
-            answer: Finished::Done,
-            breaker: finish_each(
-                breaker,
-                list,
-                now_ms,
-                generations,
-                probes,
-                settles,
-                marks,
-                answers,
-            ),
-        },
-    }
+    test(breaker, list)?;
+    Ok(finish_each(
+        breaker,
+        list,
+        now_ms,
+        generations,
+        probes,
+        settles,
+        marks,
+        answers,
+    ))
 }

@@ -2,14 +2,16 @@
 use Rattle.std.specs.Prelude.{if◌then◌else◌}
 use mathlib.Core.Path.{◌≡◌, refl, sym, ap, ◌∙◌}
 use mathlib.Core.Bool.{Bool, true, false, ◌&&◌, false≢true}
-use mathlib.Core.List.{List, [], ◌∷◌, ◌++◌, append_assoc, append-nil}
+use mathlib.Core.List.{List, [], ◌∷◌, ◌++◌, append_assoc}
 use Prim.Native.Nat.{ℕ, zero, suc, ◌+◌, ◌-◌, ◌*◌, ◌^◌, ◌<◌, ◌≤◌}
 use native.Mathlib.Nat.{mul-le-mul}
 use native.Mathlib.Omega.{arith}
-use lib.ListN.{length, get_or, take, drop, replicate, length-append, length-take, length-replicate, length-drop, take-append-drop, drop_of_length-le}
+use lib.ListN.{length, get_or, take, drop, replicate, length-append, length-replicate, length-drop, take-append-drop, drop_of_length-le}
 use lib.Seq.{take_at, drop_at, take_all, take-take, take-append-le, drop-drop, length-take-le, take-add}
 use lib.Dec.{ltb, leb, eqb}
 use borrow.Author.Tests.{ltb-true, ltb-false, leb-true, eqb-true}
+use Rattle.std.proofs.Common.{Some, None}
+use Rattle.std.specs.List.{list_all}
 use Rattle.le_bytes.specs.Bytes.{bytes, number, encoded, decoded, Bytes, room}
 use Rattle.le_bytes.specs.Bytes.{written, put_at}
 use Rattle.error.proofs.Choice.{and_split}
@@ -32,6 +34,11 @@ pub sum-end : (s : List ℕ) (i : ℕ) → length s ≤ i → sum_from i (drop i
 unfolding sum_from
 sum-end s i h = rw (drop_of_length-le s {i = i} h)
 
+-- ---- a number of two bytes
+pub number-two : (s : List ℕ) (at : ℕ) → at + 2 ≤ length s → number (take 2 (drop at s)) ≡ get_or s at 0 + get_or s (at + 1) 0 * 256
+unfolding number
+number-two s at h = rw (front s at (omega arith), front s (at + 1) (omega arith)) (omega arith)
+
 -- ---- zeros
 pub zeros-all : (s : List ℕ) → zeros s ≡ true → s ≡ replicate (length s) 0
 unfolding zeros
@@ -46,13 +53,11 @@ unfolding zeros
 all-zeros zero = refl
 all-zeros (suc n) = all-zeros n
 
-pub zeros-turn : (s : List ℕ) (i : ℕ) → i < length s → zeros (drop i s) ≡ (eqb (get_or s i 0) 0 && zeros (drop (i + 1) s))
+-- every byte is 0
+pub zeros-each : (s : List ℕ) → zeros s ≡ list_all (λ b. eqb b 0) s
 unfolding zeros
-zeros-turn s i h = rw (front s i h)
-
-pub zeros-end : (s : List ℕ) (i : ℕ) → length s ≤ i → zeros (drop i s) ≡ true
-unfolding zeros
-zeros-end s i h = rw (drop_of_length-le s {i = i} h)
+zeros-each [] = refl
+zeros-each (b ∷ bs) = ap (λ (t : Bool). eqb b 0 && t) (zeros-each bs)
 
 -- ---- what a block may hold
 pub may-some : (i n u : ℕ) → may_hold i n u ≡ true → (i < n) × (0 < u) × (u ≤ 496) × (i + 1 < n → u ≡ 496)
@@ -80,30 +85,6 @@ length-filled v i n part h = simp (length-append, length-headed, length-replicat
 pub length-block : (v i n : ℕ) (part : List ℕ) → length part ≤ 496 → length (block v i n part) ≡ 512
 unfolding block
 length-block v i n part h = simp (length-append, length-bytes, length-filled v i n part h)
-
--- the four numbers of a header, one after another
-pub header-by : (out a b c d : List ℕ) (v i n u : ℕ) → length out ≡ 512 → a ≡ put_at 0 (bytes 2 v) out → b ≡ put_at 2 (bytes 2 i) a → c ≡ put_at 4 (bytes 2 n) b → d ≡ put_at 6 (bytes 2 u) c
-    → d ≡ written 0 (headed v i n u) out
-unfolding headed encoded
-header-by out a b c d v i n u l p q r s =
-    let hv = bytes 2 v in
-    let hi = bytes 2 i in
-    let hn = bytes 2 n in
-    let hu = bytes 2 u in
-    let lv : length hv ≡ 2 = length-bytes 2 v in
-    let li : length hi ≡ 2 = length-bytes 2 i in
-    let ln : length hn ≡ 2 = length-bytes 2 n in
-    let lu : length hu ≡ 2 = length-bytes 2 u in
-    let a' : a ≡ written 0 hv out = p ∙ sym (put_in 0 hv out (omega arith)) in
-    let la : length a ≡ 512 = ap length a' ∙ length-written out 0 hv (omega arith) ∙ l in
-    let b' : b ≡ written 0 (hv ++ hi) out = q ∙ sym (put_in 2 hi a (omega arith)) ∙ ap (λ (x : List ℕ). written 2 hi x) a' ∙ written_after out 0 2 hv hi lv (omega arith) in
-    let lvi : length (hv ++ hi) ≡ 4 = simp (length-append, lv, li) in
-    let lb : length b ≡ 512 = ap length b' ∙ length-written out 0 (hv ++ hi) (omega arith) ∙ l in
-    let c' : c ≡ written 0 ((hv ++ hi) ++ hn) out = r ∙ sym (put_in 4 hn b (omega arith)) ∙ ap (λ (x : List ℕ). written 4 hn x) b' ∙ written_after out 0 4 (hv ++ hi) hn lvi (omega arith) in
-    let lvn : length ((hv ++ hi) ++ hn) ≡ 6 = simp (length-append, lv, li, ln) in
-    let lc : length c ≡ 512 = ap length c' ∙ length-written out 0 ((hv ++ hi) ++ hn) (omega arith) ∙ l in
-    s ∙ sym (put_in 6 hu c (omega arith)) ∙ ap (λ (x : List ℕ). written 6 hu x) c' ∙ written_after out 0 6 ((hv ++ hi) ++ hn) hu lvn (omega arith)
-    ∙ ap (λ (x : List ℕ). written 0 x out) (append_assoc (hv ++ hi) hn hu ∙ append_assoc hv hi (hn ++ hu) ∙ ap (λ (x : List ℕ). hv ++ (hi ++ (hn ++ x))) (sym (append-nil hu)))
 
 module _ (out part : List ℕ) (v i n : ℕ) (l : length out ≡ 512) (h : length part ≤ 496) where
   -- header, part and zeros
@@ -260,22 +241,12 @@ module _ (b : List ℕ) (v i n u : ℕ) (r : Reads b v i n u) where
 
 -- ---- the answer of a check
 module _ (b : List ℕ) (v i n : ℕ) (k : Bytes b) where
-  pub no_block : v < 65536 → i < 65536 → n < 65536 → ((u : ℕ) → Reads b v i n u → may_hold i n u ≡ true → ⊥) → UsedIn b v i n 0
-  no_block hv hi hn none =
-      record {
-        is = λ h. absurd (omega arith);
-        not = λ _ p m e. none (length p) (rw e (reads-there v i n p (may-some i n (length p) m).2 hv hi hn (rw e at k))) m;
-      }
+  pub no_block : v < 65536 → i < 65536 → n < 65536 → ((u : ℕ) → Reads b v i n u → may_hold i n u ≡ true → ⊥) → UsedIn b v i n None
+  no_block hv hi hn none p m e = none (length p) (rw e (reads-there v i n p (may-some i n (length p) m).2 hv hi hn (rw e at k))) m
 
-  pub is_block : (u : ℕ) → Reads b v i n u → may_hold i n u ≡ true → UsedIn b v i n u
+  pub is_block : (u : ℕ) → Reads b v i n u → may_hold i n u ≡ true → UsedIn b v i n (Some u)
   is_block u r m =
       let s = may-some i n u m in
       let l = r.long in
       let e : length (take u (drop 8 b)) ≡ u = length-take-le u (drop 8 b) (omega (arith, length-drop 8 b)) in
-      record { is = λ _. (reads-back b v i n u k s.2 r, rw e m); not = λ z. absurd (omega arith) }
-
-pub used-most : (b : List ℕ) (v i n u : ℕ) → length b ≡ 512 → UsedIn b v i n u → u ≤ 496
-used-most b v i n zero l x = omega arith
-used-most b v i n (suc u) l x =
-    let m = (may-some i n (length (take (suc u) (drop 8 b))) (x.is (omega arith)).1).2 in
-    omega (arith, m, length-take (suc u) (drop 8 b), length-drop 8 b)
+      (reads-back b v i n u k s.2 r, rw e m)

@@ -2,7 +2,7 @@
 pub mod Blocks
 pub mod Judging
 pub mod Every
-pub mod Runs
+pub mod RunBlocks
 pub mod Unique
 pub mod Joins
 pub mod OneToOne

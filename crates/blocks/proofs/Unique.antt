@@ -10,7 +10,7 @@ use Rattle.blocks.specs.Block.{sum_from, headed, filled, block}
 use Rattle.blocks.specs.Run.{blocks_from, count_of, run_of, Body}
 use Rattle.le_bytes.proofs.Little.{bytes_take, bytes_drop, bytes-bytes, bytes-append}
 use Rattle.le_bytes.proofs.Widths.{bytes-encoded}
-use Rattle.blocks.proofs.Runs.{blocks-first}
+use Rattle.blocks.proofs.RunBlocks.{blocks-first}
 use Rattle.blocks.proofs.Blocks.{Reads, length-block, length-headed, reads-there, reads-used, reads-version, reads-count}
 
 -- ---- blocks are bytes

@@ -1,11 +1,9 @@
 -- W-201: a block of 512 bytes, how it is written and what its check meets. Definitions only.
-use Rattle.std.specs.Prelude.{ℕ, ◌+◌, ◌-◌, ◌*◌, Bool, true, not, ◌&&◌, List, [], ◌∷◌, ◌++◌, ltb, leb, eqb, length, take, drop, replicate, if◌then◌else◌}
-use Rattle.error.specs.Told.{Told, tell, refused}
+use Rattle.std.specs.Prelude.{ℕ, ◌+◌, ◌-◌, ◌*◌, Bool, true, not, ◌&&◌, List, [], ◌∷◌, ◌++◌, Result, Ok, Err, ltb, leb, eqb, length, take, drop, replicate, if◌then◌else◌}
+use Rattle.error.specs.Told.{Told, tell, told_by}
 use Rattle.error.specs.declared.Refusal.{Refusal}
 use Rattle.error.specs.declared.Refusal.TheVariants.{Damaged, Version}
 use Rattle.le_bytes.specs.Bytes.{bytes, number, encoded}
-use Rattle.blocks.specs.declared.CheckedAs.{CheckedAs}
-use Rattle.blocks.specs.declared.CheckedAs.TheVariants.{Passes, Refused}
 
 -- ---- how it is written
 
@@ -78,9 +76,8 @@ abbrev pub used_body : List ℕ → List ℕ
 used_body b = judged_block (λ r. []) (take (used_in b) (drop 8 b)) b
 
 -- told as numbers: where the used body begins in the block, and how long it is
-abbrev pub judged_told : CheckedAs → Told
-judged_told (Passes used) = tell 0 (8 ∷ used ∷ [])
-judged_told (Refused r) = refused r
+abbrev pub judged_told : Result ℕ Refusal → Told
+judged_told r = told_by (λ used. tell 0 (8 ∷ used ∷ [])) r
 
 abbrev pub check_told : List ℕ → Told
-check_told b = judged_told (judged_block Refused (Passes (used_in b)) b)
+check_told b = judged_told (judged_block Err (Ok (used_in b)) b)

@@ -1,9 +1,8 @@
 -- W-201: "A save is a run of 512-byte blocks". A body's run, and what is found of one, by writing alone. Definitions only.
-use Rattle.std.specs.Prelude.{ℕ, zero, suc, ◌+◌, ◌*◌, ◌/◌, ◌<◌, ◌≤◌, ◌≡◌, Bool, true, ◌&&◌, List, [], ◌++◌, leb, length, take, drop, if◌then◌else◌}
+use Rattle.std.specs.Prelude.{ℕ, zero, suc, ◌+◌, ◌*◌, ◌/◌, ◌<◌, ◌≤◌, ◌≡◌, Bool, true, ◌&&◌, List, [], ◌++◌, Option, Some, None, leb, length, take, drop, if◌then◌else◌}
 use Rattle.le_bytes.specs.Bytes.{Bytes, put_at, written}
 use Rattle.blocks.specs.Block.{block, may_hold}
-use Rattle.blocks.specs.declared.Found.{Found}
-use Rattle.blocks.specs.declared.Found.TheVariants.{Run, Nothing}
+use Rattle.blocks.specs.declared.Run.{Run}
 
 -- ---- how it is written
 
@@ -51,13 +50,13 @@ body_in n bs = take n (joined (count_of n) bs)
 abbrev pub put_body : ℕ → List ℕ → List ℕ → List ℕ
 put_body n bs s = if leb n 63488 && (leb n (length s) && leb (512 * count_of n) (length bs)) then written 0 (body_in n bs) s else s
 
--- Internal: what is found of one block, its used length, or 0 where it is none of this version, index and count
-pub record UsedIn (b : List ℕ) (version index count used : ℕ) : Type 0 where
-  pub is : 0 < used → (b ≡ block version index count (take used (drop 8 b))) × (may_hold index count (length (take used (drop 8 b))) ≡ true)
-  pub not : used ≡ 0 → (part : List ℕ) → may_hold index count (length part) ≡ true → b ≡ block version index count part → ⊥
+-- Internal: what is found of one block, its used length, or that it is none of this version, index and count
+abbrev pub UsedIn : List ℕ → ℕ → ℕ → ℕ → Option ℕ → Type 0
+UsedIn b version index count (Some used) = (b ≡ block version index count (take used (drop 8 b))) × (may_hold index count (length (take used (drop 8 b))) ≡ true)
+UsedIn b version index count None = (part : List ℕ) → may_hold index count (length part) ≡ true → b ≡ block version index count part → ⊥
 
 -- what stands at the front of bytes: the run of one body, or none
-abbrev pub Finds : List ℕ → Found → Type 0
-Finds bs (Run version size) =
-    Body version (body_in size bs) × (length (body_in size bs) ≡ size) × (bs ≡ run_of version (body_in size bs) ++ drop (512 * count_of size) bs)
-Finds bs Nothing = (version : ℕ) (body rest : List ℕ) → Body version body → bs ≡ run_of version body ++ rest → ⊥
+abbrev pub Finds : List ℕ → Option Run → Type 0
+Finds bs (Some r) =
+    Body r.version (body_in r.size bs) × (length (body_in r.size bs) ≡ r.size) × (bs ≡ run_of r.version (body_in r.size bs) ++ drop (512 * count_of r.size) bs)
+Finds bs None = (version : ℕ) (body rest : List ℕ) → Body version body → bs ≡ run_of version body ++ rest → ⊥

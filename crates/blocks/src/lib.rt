@@ -3,12 +3,11 @@
 
 mod block;
 mod passes;
-mod run;
+mod runs;
 
 pub use block::{check, checked, judge};
-use error::Refusal;
 pub use passes::{all_summed, all_versioned};
-pub use run::{count_of, join, run_at, write_run};
+pub use runs::{count_of, join, run_at, write_run};
 
 // The bytes of a block, and those of them that hold a body.
 pub const BLOCK: usize = 512;
@@ -27,23 +26,9 @@ const MOST_BLOCKS: u16 = 128;
 
 const LONGEST_BODY: usize = 63488;
 
-// What the check of a block by itself comes to.
+// A run that stands at the front of bytes: its version, and the length of its body.
 #[derive(Clone, Copy)]
-pub enum Judged {
-    Passes,
-    Refused(Refusal),
-}
-
-// The same, with the used length of a block that passes.
-#[derive(Clone, Copy)]
-pub enum CheckedAs {
-    Passes(usize),
-    Refused(Refusal),
-}
-
-// What stands at the front of bytes: a run of this version with a body of so many bytes, or none.
-#[derive(Clone, Copy)]
-pub enum Found {
-    Run(u16, usize),
-    Nothing,
+pub struct Run {
+    pub version: u16,
+    pub size: usize,
 }

@@ -1,16 +1,17 @@
-// One test over all blocks.
+// All blocks of bytes, and one test over them.
 ghost use Rattle.std.specs.Prelude.{◌≡◌, ◌/◌, length};
+ghost use Rattle.std.specs.Simd.{first_chunks};
 ghost use Rattle.blocks.specs.Block.{summed, versioned};
 ghost use Rattle.blocks.specs.Run.{every};
 
 use crate::BLOCK;
-use crate::block::{field, is_known, sum_right};
+use crate::block::{sum_right, version_right};
 
-fn version_right(b: &[u8]) -> bool
-    requires { length b.now ≡ 512 }
-    ensures { result ≡ versioned b.now }
+// The whole blocks.
+pub(crate) fn blocks_of(s: &[u8]) -> &[[u8; BLOCK]]
+    ensures { result.now ≡ first_chunks 512 (length s.now / 512) s.now }
 {
-    is_known(field(b, 0, 2))
+    s.as_chunks().0
 }
 
 // Whether the sum of every block is right.
@@ -18,17 +19,7 @@ fn version_right(b: &[u8]) -> bool
 pub fn all_summed(s: &[u8]) -> bool
     ensures { result ≡ every summed (length s.now / 512) s.now }
 {
-    let n = s.len() / BLOCK;
-    let mut next: usize = 0;
-    let mut i: usize = 0;
-    while i < n {
-        if !sum_right(&s[next..next + BLOCK]) {
-            return false;
-        }
-        next += BLOCK;
-        i += 1;
-    }
-    true
+    blocks_of(s).iter().all(|b| sum_right(b))
 }
 
 // Whether the version of every block is known.
@@ -36,15 +27,5 @@ pub fn all_summed(s: &[u8]) -> bool
 pub fn all_versioned(s: &[u8]) -> bool
     ensures { result ≡ every versioned (length s.now / 512) s.now }
 {
-    let n = s.len() / BLOCK;
-    let mut next: usize = 0;
-    let mut i: usize = 0;
-    while i < n {
-        if !version_right(&s[next..next + BLOCK]) {
-            return false;
-        }
-        next += BLOCK;
-        i += 1;
-    }
-    true
+    blocks_of(s).iter().all(|b| version_right(b))
 }

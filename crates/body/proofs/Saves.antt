@@ -1,18 +1,23 @@
 -- Laws of a save's body: it is read again, and what is read was written. Assumes nothing.
 use mathlib.Core.Path.{◌≡◌, refl, sym, ap, subst, ◌∙◌}
-use mathlib.Core.Bool.{true, false}
+use mathlib.Core.Bool.{Bool, true, false, ◌&&◌, false≢true, and-true}
 use mathlib.Core.List.{List, [], ◌∷◌, ◌++◌, append_assoc, append-nil}
-use Prim.Native.Nat.{ℕ, zero, suc, ◌+◌, ◌-◌, ◌*◌, ◌<◌, ◌≤◌}
-use native.Mathlib.Nat.{sub-zero}
+use Prim.Native.Nat.{ℕ, zero, suc, ◌+◌, ◌-◌, ◌*◌, ◌^◌, ◌<◌, ◌≤◌}
 use native.Mathlib.Omega.{arith}
+use Rattle.std.proofs.Common.{None, fold, ltb, lt-ltb}
+use Rattle.std.proofs.lemmas.List.{drop-replicate}
+use Rattle.std.specs.Bool.{then_some}
+use lib.Bits.{bit_or}
+use lib.Pow.{pow_pos}
 use lib.Dec.{eqb}
 use lib.ListN.{length, take, drop, replicate, length-append, length-drop, length-replicate, take-append-drop}
 use lib.Seq.{take_at, drop_at, take_all, drop-drop, length-take-le}
-use borrow.Author.Tests.{eqb-true, eq-eqb, ne_eqb, le-leb, lt-leb}
+use borrow.Author.Tests.{eqb-true, eq-eqb, le-leb}
 use Rattle.error.proofs.Choice.{and_split}
 use Rattle.history.specs.declared.Items.{Items}
 use Rattle.history.specs.declared.Items.TheVariants as ItemsIs
 use Rattle.history.specs.Items.{all_below, are_items, fits, padded, sound_list, view}
+use Rattle.history.proofs.Laws.{BitsOf, bits-more}
 use Rattle.history.proofs.Sound as List·
 use Rattle.breaker.specs.declared.Breaker.{Breaker}
 use Rattle.breaker.specs.Record.{sound_record, sound_config, sound_shared, items_of}
@@ -21,7 +26,7 @@ use Rattle.le_bytes.specs.Bytes.{number, encoded, decoded, room, written, put_at
 use Rattle.le_bytes.proofs.Written.{put_in, written_from, length-written, items-in}
 use Rattle.le_bytes.proofs.Little.{bytes_drop}
 use Rattle.le_bytes.proofs.Widths.{length-encoded, length-encoded-any, length-encoded-same, put-items-in, length-decoded, fit-decoded, decoded-encoded, encoded-decoded, room-same}
-use Rattle.body.specs.Save.{Save, Good, is_name, widths, fields_of, width_of, item_width, body_of, size_of, save_of, put_save}
+use Rattle.body.specs.Save.{Save, Good, BodyRead, is_name, widths, fields_of, width_of, item_width, body_of, size_of, save_of, put_save}
 use Rattle.body.specs.Record.{breaker_of}
 use Rattle.body.proofs.Records.{record-there, record-back, room-widths}
 
@@ -32,14 +37,17 @@ name-eight n e = eqb-true (length n) 8 (and_split (eqb (length n) 8) (all_below 
 pub name-ascii : (n : List ℕ) → is_name n ≡ true → all_below 128 n ≡ true
 name-ascii n e = (and_split (eqb (length n) 8) (all_below 128 n) e).1
 
-pub name-is : (n : List ℕ) → length n ≡ 8 → all_below 128 n ≡ true → is_name n ≡ true
-name-is n l a = simp (eq-eqb (length n) 8 l, a)
+-- ---- the bits of bytes
+bits_after : (done bs : List ℕ) (a : ℕ) → BitsOf a done → BitsOf (fold bit_or a bs) (done ++ bs)
+unfolding all_below
+bits_after done [] a h = rw append-nil h
+bits_after done (b ∷ bs) a h =
+    rw (← append_assoc done (b ∷ []) bs)
+    (bits_after (done ++ b ∷ []) bs (bit_or a b) (bits-more a b done (b ∷ []) (done ++ b ∷ []) h (λ k. sym (and-true (ltb b (2 ^ k)))) refl))
 
-pub name-not : (n : List ℕ) → (length n ≡ 8 → ⊥) → false ≡ is_name n
-name-not n e = simp (ne_eqb (length n) 8 e)
-
-pub name-last : (n : List ℕ) → length n ≡ 8 → all_below 128 n ≡ is_name n
-name-last n l = simp (eq-eqb (length n) 8 l)
+pub bits_below : (bs : List ℕ) → BitsOf (fold bit_or 0 bs) bs
+unfolding all_below
+bits_below bs = bits_after [] bs 0 (λ k. lt-ltb 0 (2 ^ k) (pow_pos k))
 
 -- ---- the save that is read of bytes
 abbrev pub record_in : List ℕ → Breaker
@@ -141,7 +149,7 @@ module _ (bs : List ℕ) (k : Bytes bs) (h : 86 ≤ length bs) (sz : length bs �
       ∙ ap (λ (y : List ℕ). take 8 bs ++ y) (take-append-drop 78 (drop 8 bs))
       ∙ take-append-drop 8 bs)
 
-  pub good-back : all_below 128 (take 8 bs) ≡ true → sound_record (record_in bs) ≡ true → fits (items_of (record_in bs).config) (record_in bs).shared.len ≡ true
+  pub good-back : is_name (take 8 bs) ≡ true → sound_record (record_in bs) ≡ true → fits (items_of (record_in bs).config) (record_in bs).shared.len ≡ true
       → are_items (items_of (record_in bs).config) (list_in bs) ≡ true → Good (save_in bs)
   good-back a sr f ai =
       let p = and_split (sound_config (record_in bs).config) (sound_shared (record_in bs).config (record_in bs).shared) sr in
@@ -150,7 +158,7 @@ module _ (bs : List ℕ) (k : Bytes bs) (h : 86 ≤ length bs) (sz : length bs �
       let fn : fits (items_of (record_in bs).config) (length (list_in bs)) ≡ true = ap (λ (m : ℕ). fits (items_of (record_in bs).config) m) items-length ∙ f in
       let sl : sound_list (items_of (record_in bs).config) n (padded (list_in bs)) ≡ true = ap (λ (m : ℕ). sound_list (items_of (record_in bs).config) m (padded (list_in bs))) (sym items-length) ∙ List·.→sound (items_of (record_in bs).config) (list_in bs) fn ai in
       record {
-        named = name-is (take 8 bs) (length-take-le 8 bs (omega (arith, h))) a;
+        named = a;
         fields = (record-back (drop 8 bs) (bytes_drop 8 bs k) (omega (arith, rest-long))).1;
         counted = sym items-length;
         items = ap-fit (sym items-length) (fit-decoded (replicate n w) (drop 86 bs) list-bytes (omega (arith, list-room)));
@@ -161,19 +169,13 @@ module _ (bs : List ℕ) (k : Bytes bs) (h : 86 ≤ length bs) (sz : length bs �
       ap-fit e f = rw e at f
 
 -- ---- the width of an item
-pub width-by : (b : Breaker) (i : Items) → items_of b.config ≡ i → item_width i ≡ width_of b
-width-by b i e = ap item_width (sym e)
-
-width-of : (i : Items) → (1 ≤ item_width i) × (item_width i ≤ 8)
-width-of ItemsIs.Nothing = (omega arith, omega arith)
-width-of (ItemsIs.Outcomes w) = (omega arith, omega arith)
-width-of ItemsIs.Times = (omega arith, omega arith)
+item-width-le : (i : Items) → item_width i ≤ 8
+item-width-le ItemsIs.Nothing = omega arith
+item-width-le (ItemsIs.Outcomes w) = omega arith
+item-width-le ItemsIs.Times = omega arith
 
 pub width-le : (b : Breaker) → width_of b ≤ 8
-width-le b = (width-of (items_of b.config)).1
-
-pub size_is : (b : Breaker) (w : ℕ) → w ≡ width_of b → 86 + b.shared.len * w ≡ size_of b
-size_is b w e = ap (λ (x : ℕ). 86 + b.shared.len * x) e ∙ ap (λ (r : ℕ). 8 + r + b.shared.len * width_of b) (sym room-widths)
+width-le b = item-width-le (items_of b.config)
 
 -- ---- bytes of the list may be items exactly where the items are
 pub items_alike : (i : Items) (n : ℕ) (bs : List ℕ) → length bs ≡ n * item_width i → are_items i bs ≡ are_items i (decoded (replicate n (item_width i)) bs)
@@ -185,15 +187,6 @@ items_alike ItemsIs.Times n bs h = refl
 
 -- ---- the body written part by part
 module _ (name : List ℕ) (b : Breaker) (s out : List ℕ) where
-  pub save-name : (length name ≡ 8 → ⊥) → out ≡ put_save name b s out
-  save-name n = simp (ne_eqb (length name) 8 n)
-
-  pub save-list : length name ≡ 8 → length s < b.shared.len → out ≡ put_save name b s out
-  save-list n l = simp (eq-eqb (length name) 8 n, lt-leb b.shared.len (length s) l)
-
-  pub save-room : length name ≡ 8 → b.shared.len ≤ length s → length out < size_of b → out ≡ put_save name b s out
-  save-room n l r = simp (eq-eqb (length name) 8 n, le-leb b.shared.len (length s) l, lt-leb (size_of b) (length out) r)
-
   pub save-fits : length name ≡ 8 → b.shared.len ≤ length s → size_of b ≤ length out → written 0 (body_of (save_of name b s)) out ≡ put_save name b s out
   save-fits n l r = simp (eq-eqb (length name) 8 n, le-leb b.shared.len (length s) l, le-leb (size_of b) (length out) r)
 
@@ -247,13 +240,8 @@ list_read x g bs zeros got e z p =
     ∙ ap (λ (m : ℕ). decoded (replicate m w) (drop 86 bs)) ln
     ∙ ap (λ (y : List ℕ). decoded (replicate (length x.items) w) (drop 86 y)) e
     ∙ body-items x g in
-    let dz : drop n zeros ≡ replicate (4096 - length x.items) 0 = ap (λ (y : List ℕ). drop n y) z ∙ drop-zeros n 4096 (omega arith) ∙ ap (λ (m : ℕ). replicate (4096 - m) 0) en in
+    let dz : drop n zeros ≡ replicate (4096 - length x.items) 0 = ap (λ (y : List ℕ). drop n y) z ∙ drop-replicate n 4096 0 ∙ ap (λ (m : ℕ). replicate (4096 - m) 0) en in
     ap (λ (y : List ℕ). y ++ drop n zeros) it ∙ ap (λ (y : List ℕ). x.items ++ y) dz
-  where
-    drop-zeros : (n m : ℕ) → n ≤ m → drop n (replicate m 0) ≡ replicate {A = ℕ} (m - n) 0
-    drop-zeros zero m h = rw sub-zero
-    drop-zeros (suc n) zero h = absurd (omega arith)
-    drop-zeros (suc n) (suc m) h = let d : m - n ≡ suc m - suc n = omega arith in drop-zeros n m (omega arith) ∙ ap (λ (k : ℕ). replicate k 0) d
 
 -- the bytes of the list of a body, and of bytes of its length
 pub body_alike : (bs : List ℕ) → 86 ≤ length bs → length bs ≡ size_of (record_in bs) → are_items (items_of (record_in bs).config) (drop 86 bs) ≡ are_items (items_of (record_in bs).config) (list_in bs)
@@ -271,3 +259,48 @@ pub list-read-as : (x : Save) (g : Good x) (b : Breaker) (bs zeros got : List �
 list-read-as x g b bs zeros got e q z p =
     subst (λ (y : Breaker). got ≡ items_at 86 (width_of y) (take y.shared.len zeros) bs → got ++ drop y.shared.len zeros ≡ padded x.items) q
     (λ r. list_read x g bs zeros got e z r) p
+
+-- ---- what is read of bytes
+body_named : (bs : List ℕ) (x : Save) → Good x → bs ≡ body_of x → is_name (take 8 bs) ≡ true
+body_named bs x g e = ap (λ (y : List ℕ). is_name (take 8 y)) e ∙ ap is_name (body-name x g) ∙ g.named
+
+-- too short, or without a name
+pub read_short : (bs : List ℕ) → length bs < 86 → BodyRead bs None
+read_short bs h x g e = omega (arith, body-least x g, ap length e)
+
+pub read_unnamed : (bs : List ℕ) → is_name (take 8 bs) ≡ false → BodyRead bs None
+read_unnamed bs f x g e = false≢true (sym f ∙ body_named bs x g e)
+
+-- a test, and then another
+pub and_on : (a b r : Bool) → a ≡ true → r ≡ b → r ≡ (a && b)
+and_on a b r h e = rw h e
+
+pub and_off : (a b r : Bool) → a ≡ false → r ≡ false → r ≡ (a && b)
+and_off a b r h e = rw h e
+
+-- the test of the list
+abbrev pub is_list : Items → ℕ → List ℕ → Bool
+is_list i n bs = fits i n && (eqb (length bs) (n * item_width i) && are_items i bs)
+
+list_passes : (x : Save) → Good x → is_list (items_of x.breaker.config) x.breaker.shared.len (drop 86 (body_of x)) ≡ true
+list_passes x g =
+    let l : eqb (length (drop 86 (body_of x))) (x.breaker.shared.len * width_of x.breaker) ≡ true = eq-eqb _ _ (omega (arith, length-drop 86 (body_of x), body-length x g, room-widths)) in
+    simp (good-fits x g, l, good-bytes x g)
+
+pub read_by : (bs : List ℕ) (b : Breaker) (t : Bool) → Bytes bs → 86 ≤ length bs → is_name (take 8 bs) ≡ true → b ≡ record_in bs
+    → t ≡ (sound_record b && is_list (items_of b.config) b.shared.len (drop 86 bs)) → BodyRead bs (then_some t b)
+read_by bs b t k h n r e = subst (λ (b : Breaker). t ≡ (sound_record b && is_list (items_of b.config) b.shared.len (drop 86 bs)) → BodyRead bs (then_some t b)) (sym r) (go t) e
+  where
+    go : (t : Bool) → t ≡ (sound_record (record_in bs) && is_list (items_of (record_in bs).config) (record_in bs).shared.len (drop 86 bs)) → BodyRead bs (then_some t (record_in bs))
+    go true e =
+        let p = and_split (sound_record (record_in bs)) _ (sym e) in
+        let q = and_split (fits (items_of (record_in bs).config) (record_in bs).shared.len) _ p.1 in
+        let u = and_split (eqb (length (drop 86 bs)) ((record_in bs).shared.len * width_of (record_in bs))) _ q.1 in
+        let z : length bs ≡ size_of (record_in bs) = omega (arith, h, length-drop 86 bs, room-widths, eqb-true (length (drop 86 bs)) _ u.0) in
+        (save_in bs, good-back bs k h z n p.0 q.0 (sym (body_alike bs h z) ∙ u.1), body_back bs k h z, refl)
+    go false e = λ x g d.
+        let r : record_in bs ≡ x.breaker = ap record_in d ∙ body-record x g in
+        false≢true
+        (e ∙ ap (λ (b : Breaker). sound_record b && is_list (items_of b.config) b.shared.len (drop 86 bs)) r
+        ∙ ap (λ (y : List ℕ). sound_record x.breaker && is_list (items_of x.breaker.config) x.breaker.shared.len (drop 86 y)) d
+        ∙ simp (good-record x g, list_passes x g))

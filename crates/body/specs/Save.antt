@@ -1,14 +1,12 @@
 -- W-201: a breaker saved under a name, and its bytes: "The joined body is the name, the record in document 01's order, then the list, 1 or 8
 -- bytes an item". Definitions only.
-use Rattle.std.specs.Prelude.{ℕ, ◌+◌, ◌*◌, ◌≡◌, Bool, true, ◌&&◌, List, ◌++◌, map, eqb, leb, length, replicate, if◌then◌else◌}
+use Rattle.std.specs.Prelude.{ℕ, ◌+◌, ◌*◌, ◌≡◌, Option, Some, None, Bool, true, ◌&&◌, List, ◌++◌, map, eqb, leb, length, replicate, if◌then◌else◌}
 use Rattle.history.specs.declared.Items.{Items}
 use Rattle.history.specs.declared.Items.TheVariants as ItemsIs
 use Rattle.history.specs.Items.{all_below, padded, view}
 use Rattle.breaker.specs.declared.Breaker.{Breaker}
 use Rattle.breaker.specs.Record.{record_fields, items_of, sound}
 use Rattle.le_bytes.specs.Bytes.{encoded, room, written, Fit}
-use Rattle.body.specs.declared.ReadAs.{ReadAs}
-use Rattle.body.specs.declared.ReadAs.TheVariants.{Saved, Nothing}
 
 pub record Save : Type 0 where
   pub name : List ℕ
@@ -66,6 +64,6 @@ put_save name b s out =
     else out
 
 -- what is read of bytes: the breaker of the save that they are the body of, or that they are none, by writing alone
-abbrev pub BodyRead : List ℕ → ReadAs → Type 0
-BodyRead bs (Saved b) = (s : Save) × Good s × (bs ≡ body_of s) × (s.breaker ≡ b)
-BodyRead bs Nothing = (s : Save) → Good s → bs ≡ body_of s → ⊥
+abbrev pub BodyRead : List ℕ → Option Breaker → Type 0
+BodyRead bs (Some b) = (s : Save) × Good s × (bs ≡ body_of s) × (s.breaker ≡ b)
+BodyRead bs None = (s : Save) → Good s → bs ≡ body_of s → ⊥

@@ -1,13 +1,13 @@
 // The body of a save: written, judged and read.
-ghost use Rattle.std.specs.Prelude.{◌≡◌, true, ℕ, ◌^◌, ltb, length};
-ghost use Rattle.le_bytes.specs.Bytes.{items_at, put_items};
-ghost use Rattle.history.specs.Items.{all_below, are_items, padded};
-ghost use Rattle.body.specs.Save.{BodyRead, body_of, Good, is_name, put_save, Save, size_of, width_of};
+ghost use Rattle.std.specs.Prelude.{◌≡◌, ◌==◌, ◌*◌, ◌&&◌, ltb, length};
+ghost use Rattle.le_bytes.specs.Bytes.{put_items};
+ghost use Rattle.history.specs.Items.{all_below, are_items, fits, padded};
+ghost use Rattle.body.specs.Save.{BodyRead, body_of, Good, is_name, item_width, put_save, Save, size_of};
 
 use crate::record::{put_record, record_at};
-use crate::{NAME, RECORD_END, ReadAs};
+use crate::{NAME, RECORD_END};
 use breaker::{Breaker, items_of, sound_record};
-use history::{Items, MOST_ITEMS, PLACES, may_have};
+use history::{Items, PLACES, may_have};
 use le_bytes::{copy, items_at, put_items};
 
 // The bytes of an item: a time or an outcome.
@@ -15,12 +15,11 @@ const TIME: usize = 8;
 
 const OUTCOME: usize = 1;
 
-fn item_width(b: Breaker) -> usize
-    ensures { result ≡ width_of b }
+fn item_width(items: Items) -> usize
+    ensures { result ≡ item_width items }
 {
-    match items_of(b.config) {
-        Items::Nothing => OUTCOME,
-        Items::Outcomes(_) => OUTCOME,
+    match items {
+        Items::Nothing | Items::Outcomes(_) => OUTCOME,
         Items::Times => TIME,
     }
 }
@@ -30,15 +29,15 @@ fn item_width(b: Breaker) -> usize
 pub fn size(b: Breaker) -> usize
     ensures { result ≡ size_of b }
 {
-    RECORD_END + b.shared.len as usize * item_width(b)
+    RECORD_END + b.shared.len as usize * item_width(items_of(b.config))
 }
 
-fn put_list(out: &mut [u8], b: Breaker, items: &[u64])
-    ensures { out.new ≡ put_items 86 (width_of b) items.now out.old }
+// By constant widths, of which the compiler makes one store an item: `item_width` in their place takes five times as long.
+fn put_list(out: &mut [u8], kind: Items, items: &[u64])
+    ensures { out.new ≡ put_items 86 (item_width kind) items.now out.old }
 {
-    match items_of(b.config) {
-        Items::Nothing => put_items(out, RECORD_END, OUTCOME, items),
-        Items::Outcomes(_) => put_items(out, RECORD_END, OUTCOME, items),
+    match kind {
+        Items::Nothing | Items::Outcomes(_) => put_items(out, RECORD_END, OUTCOME, items),
         Items::Times => put_items(out, RECORD_END, TIME, items),
     }
 }
@@ -48,32 +47,20 @@ fn put_list(out: &mut [u8], b: Breaker, items: &[u64])
 pub fn write(out: &mut [u8], name: &[u8], b: Breaker, list: &[u64])
     ensures { out.new ≡ put_save name.now b list.now out.old }
 {
-    if name.len() != NAME {
-        return;
-    }
     let n = b.shared.len as usize;
-    if list.len() < n {
-        return;
+    if name.len() == NAME && n <= list.len() && size(b) <= out.len() {
+        copy(out, 0, name);
+        put_record(out, NAME, b);
+        put_list(out, items_of(b.config), &list[..n]);
     }
-    if out.len() < size(b) {
-        return;
-    }
-    copy(out, 0, name);
-    put_record(out, NAME, b);
-    put_list(out, b, &list[..n]);
 }
 
-// The bits that any byte has: below a power of two where every byte is.
+// The bits that any byte has: below a power of two where every byte is. No test ends it early, so the compiler takes many bytes a turn.
 fn bits_of(s: &[u8]) -> u8
-    ensures { (k : ℕ) → ltb result (2 ^ k) ≡ all_below (2 ^ k) s.now }
+    ensures ascii { ltb result 128 ≡ all_below 128 s.now }
+    ensures outcomes { ltb result 2 ≡ all_below 2 s.now }
 {
-    let mut bits: u8 = 0;
-    let mut i: usize = 0;
-    while i < s.len() {
-        bits |= s[i];
-        i += 1;
-    }
-    bits
+    s.iter().fold(0, |bits, b| bits | *b)
 }
 
 // Whether bytes are a name.
@@ -81,10 +68,7 @@ fn bits_of(s: &[u8]) -> u8
 pub fn is_name(s: &[u8]) -> bool
     ensures { result ≡ is_name s.now }
 {
-    if s.len() != NAME {
-        return false;
-    }
-    bits_of(s) < 128
+    s.len() == NAME && bits_of(s) < 128
 }
 
 // Whether bytes may be the items of a list: any may be those of a time.
@@ -92,48 +76,29 @@ fn are_items(items: Items, s: &[u8]) -> bool
     ensures { result ≡ are_items items s.now }
 {
     match items {
-        Items::Nothing => true,
+        Items::Nothing | Items::Times => true,
         Items::Outcomes(_) => bits_of(s) < 2,
-        Items::Times => true,
     }
+}
+
+// Whether bytes may be a list of this kind and length.
+fn is_list(s: &[u8], items: Items, len: u32) -> bool
+    ensures { result ≡ (fits items len && (length s.now == len * item_width items && are_items items s.now)) }
+{
+    may_have(items, len) && s.len() == len as usize * item_width(items) && are_items(items, s)
 }
 
 // The breaker that bytes are the body of.
 // Ruled out: a name with a byte of 128; an outcome of 2; a list that is cut.
-pub fn read(s: &[u8]) -> ReadAs
+pub fn read(s: &[u8]) -> Option<Breaker>
     ensures { BodyRead s.now result }
 {
-    if s.len() < RECORD_END {
-        return ReadAs::Nothing;
-    }
-    if bits_of(&s[..NAME]) >= 128 {
-        return ReadAs::Nothing;
+    if s.len() < RECORD_END || !is_name(&s[..NAME]) {
+        return None;
     }
     let b = record_at(s, NAME);
-    if !sound_record(b) {
-        return ReadAs::Nothing;
-    }
-    let items = items_of(b.config);
-    if !may_have(items, b.shared.len) {
-        return ReadAs::Nothing;
-    }
-    if s.len() != size(b) {
-        return ReadAs::Nothing;
-    }
-    if are_items(items, &s[RECORD_END..]) {
-        return ReadAs::Saved(b);
-    }
-    ReadAs::Nothing
-}
-
-fn get_list(s: &[u8], b: Breaker, items: &mut [u64])
-    ensures { items.new ≡ items_at 86 (width_of b) items.old s.now }
-{
-    match items_of(b.config) {
-        Items::Nothing => items_at(s, RECORD_END, OUTCOME, items),
-        Items::Outcomes(_) => items_at(s, RECORD_END, OUTCOME, items),
-        Items::Times => items_at(s, RECORD_END, TIME, items),
-    }
+    let is_body = sound_record(b) && is_list(&s[RECORD_END..], items_of(b.config), b.shared.len);
+    is_body.then_some(b)
 }
 
 // Puts the list of a save into a storage: every place of it.
@@ -141,13 +106,10 @@ fn get_list(s: &[u8], b: Breaker, items: &mut [u64])
 pub fn list_in(s: &[u8], b: Breaker, list: &mut [u64])
     ensures { (x : Save) → Good x → s.now ≡ body_of x → x.breaker ≡ b → length list.old ≡ 4096 → list.new ≡ padded x.items }
 {
-    if list.len() != PLACES {
-        return;
-    }
     let n = b.shared.len as usize;
-    if PLACES < n {
-        return;
+    if list.len() == PLACES && n <= PLACES {
+        list.fill(0);
+        let width = item_width(items_of(b.config));
+        items_at(s, RECORD_END, width, &mut list[..n]);
     }
-    let _emptied = history::clear(list, MOST_ITEMS);
-    get_list(s, b, &mut list[..n]);
 }

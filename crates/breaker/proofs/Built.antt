@@ -10,12 +10,12 @@ use borrow.Author.Tests.{le-leb, ltb-false}
 use Rattle.trip.specs.declared.Trip.{Trip}
 use Rattle.trip.specs.declared.Trip.TheVariants.{Consecutive, Ratio, Windowed}
 use Rattle.trip.specs.declared.Config.{Config}
-use Rattle.trip.specs.declared.Built.{Built}
-use Rattle.trip.specs.declared.Built.TheVariants.{Made}
+use Rattle.error.specs.declared.Refusal.{Refusal}
 use Rattle.trip.specs.declared.CircuitBreakerBuilder.{CircuitBreakerBuilder}
 use Rattle.trip.specs.Settings.{is_time, millis, zero_ratio, one_ratio, clamped_ratio, normalised_trip, period_is_time, over_limit, config_for, built_of}
 use Rattle.trip.proofs.Settings.{clamped-number}
 use Rattle.trip.proofs.Ratios.{at_least}
+use Rattle.std.proofs.Common.{Result, Ok}
 use Rattle.breaker.specs.Record.{sound_ratio, sound_policy, sound_config}
 use Rattle.breaker.specs.Calls.{fresh}
 use Rattle.error.proofs.Choice.{if-cases}
@@ -63,7 +63,7 @@ settings-sound (Windowed k d) cooldown trials required f l p q =
     simp (le-leb 1 (max k 1) (omega arith), le-leb (max k 1) 4096 (ltb-false 4096 (max k 1) l), le-leb 1 required p, le-leb required trials q)
 
 -- the builder's settings are sound
-pub config-sound : (b : CircuitBreakerBuilder) (c : Config) → RatioFits b.trip → built_of b ≡ Made c → sound_config c ≡ true
+pub config-sound : (b : CircuitBreakerBuilder) (c : Config) → RatioFits b.trip → built_of b ≡ Ok c → sound_config c ≡ true
 unfolding built_of
 config-sound b c f =
     let trials : ℕ = max b.half_open_trials 1 in
@@ -75,9 +75,9 @@ config-sound b c f =
     (λ l e. let k : made ≡ c = cc in rw (← k) (settings-sound b.trip (millis b.cooldown) trials required f l (omega arith) (omega arith)))))
     (λ t e. cc)
   where
-    IfMade : Built → Type 0
-    IfMade x = x ≡ Made c → sound_config c ≡ true
+    IfMade : Result Config Refusal → Type 0
+    IfMade x = x ≡ Ok c → sound_config c ≡ true
 
 -- and so is the breaker that is made of them
-pub sound-built : (b : CircuitBreakerBuilder) (c : Config) → RatioFits b.trip → built_of b ≡ Made c → SoundAt c fresh
+pub sound-built : (b : CircuitBreakerBuilder) (c : Config) → RatioFits b.trip → built_of b ≡ Ok c → SoundAt c fresh
 sound-built b c f e = sound-fresh c (config-sound b c f e)

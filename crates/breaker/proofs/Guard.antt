@@ -6,14 +6,12 @@ use Prim.Native.Nat.{ℕ}
 use lib.Dec.{eqb}
 use lib.ListN.{length}
 use borrow.Author.Tests.{eq-eqb, ne_eqb}
-use Rattle.std.proofs.Common.{if◌then◌else◌}
+use Rattle.std.proofs.Common.{if◌then◌else◌, Result, Ok, Err}
 use Rattle.error.specs.Told.{Told, refused}
 use Rattle.error.specs.declared.Refusal.{Refusal}
 use Rattle.error.specs.declared.Refusal.TheVariants.{Storage, Unsound}
 use Rattle.history.specs.Items.{padded}
 use Rattle.breaker.specs.declared.Breaker.{Breaker}
-use Rattle.breaker.specs.declared.Tested.{Tested}
-use Rattle.breaker.specs.declared.Tested.TheVariants.{Sound, Refused}
 use Rattle.breaker.specs.Record.{Settings, State, settings, state, stored, sound}
 use Rattle.breaker.specs.Rules.{Outcome, outcome}
 use Rattle.breaker.specs.Calls.{after, guarded, kept, on_sound, asked}
@@ -33,23 +31,23 @@ module _ {A : Type 0} (refusal : Refusal → A) (answer : A) (b : Breaker) (s : 
   guarded-done ok = simp (eq-eqb (length s) 4096 (sound-places b s ok), ok)
 
   -- what the tests come to, told in the call's own answer
-  abbrev meant : Tested → A
-  meant Sound = answer
-  meant (Refused r) = refusal r
+  abbrev meant : Result (Unit {0}) Refusal → A
+  meant (Ok u) = answer
+  meant (Err r) = refusal r
 
-  pub guarded-refused : (r : Refusal) → Refused r ≡ guarded Refused Sound b s → refusal r ≡ guarded refusal answer b s
+  pub guarded-refused : (r : Refusal) → Err r ≡ guarded Err (Ok (tt {0})) b s → refusal r ≡ guarded refusal answer b s
   guarded-refused r e = ap meant e ∙ go (eqb (length s) 4096) (sound b s)
     where
       go : (x y : Bool)
-          → meant (if not x then Refused Storage else if not y then Refused Unsound else Sound) ≡ (if not x then refusal Storage else if not y then refusal Unsound else answer)
+          → meant (if not x then Err Storage else if not y then Err Unsound else Ok (tt {0})) ≡ (if not x then refusal Storage else if not y then refusal Unsound else answer)
       go false y = refl
       go true false = refl
       go true true = refl
 
-pub tested-sound : (b : Breaker) (s : List ℕ) → Sound ≡ guarded Refused Sound b s → sound b s ≡ true
+pub tested-sound : (b : Breaker) (s : List ℕ) → Ok (tt {0}) ≡ guarded Err (Ok (tt {0})) b s → sound b s ≡ true
 tested-sound b s e = go (eqb (length s) 4096) (sound b s) (ap (meant (λ r. false) true b s) e)
   where
-    go : (x y : Bool) → true ≡ meant (λ r. false) true b s (if not x then Refused Storage else if not y then Refused Unsound else Sound) → y ≡ true
+    go : (x y : Bool) → true ≡ meant (λ r. false) true b s (if not x then Err Storage else if not y then Err Unsound else Ok (tt {0})) → y ≡ true
     go false y e = absurd (false≢true (sym e))
     go true false e = sym e
     go true true e = refl
@@ -61,7 +59,7 @@ unchanged told b s ok = ap₂ (after told) (stored-state b s ok) (padded-state b
 -- ---- a call that may change the breaker, and one that only reads it
 
 module _ (rule : Settings → State → Outcome) (b : Breaker) (s : List ℕ) where
-  pub sound-refused : (r : Refusal) → Refused r ≡ guarded Refused Sound b s → after (refused r) b s ≡ on_sound rule b s
+  pub sound-refused : (r : Refusal) → Err r ≡ guarded Err (Ok (tt {0})) b s → after (refused r) b s ≡ on_sound rule b s
   unfolding on_sound
   sound-refused r e = guarded-refused (λ r. after (refused r) b s) _ b s r e
 
@@ -85,7 +83,7 @@ module _ (rule : Settings → State → Outcome) (b : Breaker) (s : List ℕ) wh
       ap (after t next) (padded-state b s ok ∙ ap padded (sym l)) ∙ ap (λ (x : Breaker). after t x (padded st.list)) q ∙ ap (kept b.config) (sym r) ∙ sound-done ok
 
 module _ (rule : Settings → State → Told) (b : Breaker) (s : List ℕ) where
-  pub asked-refused : (r : Refusal) → Refused r ≡ guarded Refused Sound b s → refused r ≡ asked rule b s
+  pub asked-refused : (r : Refusal) → Err r ≡ guarded Err (Ok (tt {0})) b s → refused r ≡ asked rule b s
   unfolding asked
   asked-refused r e = guarded-refused refused _ b s r e
 

@@ -13,6 +13,7 @@ use mathlib.Core.List.{List, [], ◌∷◌}
 use lib.Dec.{leb, eqb}
 use lib.ListN.{length}
 use borrow.Author.Tests.{leb-true, leb-false}
+use Rattle.std.proofs.Common.{Option}
 use Rattle.error.specs.Choice.{bit}
 use Rattle.error.specs.Told.{Told, tell, refused}
 use Rattle.error.specs.declared.Refusal.TheVariants.{Full}
@@ -27,7 +28,7 @@ use Rattle.breaker.specs.declared.Breaker.{Breaker}
 use Rattle.breaker.specs.declared.Ticket.{Ticket}
 use Rattle.breaker.specs.declared.Decision.{Decision}
 use Rattle.breaker.specs.declared.Decision.TheVariants.{Acquired, Retry, Impossible}
-use Rattle.breaker.specs.declared.Reservation.{Reservation}
+use Rattle.breaker.specs.declared.Delay.{Delay}
 use Rattle.breaker.specs.Record.{Settings, State, Closed, HalfOpen, Open, settings, state, fields, stored, sound_policy, sound_config, items_for, items_of, sound}
 use Rattle.breaker.specs.Rules.{Outcome, outcome, with_counts, with_history, moved, no_counts, one_more_trial, one_more_trait_probe, less_counts, counting, opening, closing, half_opening, returned, recorded, no_room, Call, success, failure, abort, trait_abort, probes, in_half_open, in_closed, settled, aborted, finish, ticket_of, released, manual, Admitted, granted, shed, admit, noted, via_trait, admit_as, reset}
 use Rattle.breaker.specs.Answers.{is_acquired}
@@ -268,7 +269,7 @@ sound-acquire_cost inner reading c st ok = go (admit_as true (settings c) readin
     go (granted t next) h = sound-handed_on c (is_acquired inner) (decided inner) t next h
     go (shed ms) h = ok
 
-pub sound-reserve : (inner : Reservation) (reading : ℕ) → Keeps (reserve inner reading)
+pub sound-reserve : (inner : Option Delay) (reading : ℕ) → Keeps (reserve inner reading)
 sound-reserve inner reading c st ok = go (admit_as true (settings c) reading st) (sound-admit_as c st ok true reading)
   where
     go : (a : Admitted) → SoundGrant c a → SoundAt c (reserve_inner inner a st).after

@@ -8,9 +8,8 @@ pub mod Finishes
 pub mod Keeps
 pub mod Built
 pub mod Guard
-pub mod Queries
 pub mod Orders
 pub mod Corollaries
 pub mod Examples
-pub mod OneToOne
 pub mod Rows
+pub mod OneToOne

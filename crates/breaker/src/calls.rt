@@ -1,13 +1,14 @@
 // Making a breaker, and a delay.
 ghost use Rattle.std.specs.Prelude.{◌≡◌};
-ghost use Rattle.breaker.specs.Answers.{finished_told, delay_of};
-ghost use Rattle.breaker.specs.Calls.{after, built};
+ghost use Rattle.breaker.specs.declared.Breaker.{Breaker};
+ghost use Rattle.breaker.specs.Answers.{delay_of};
+ghost use Rattle.breaker.specs.Calls.{built, done_by_value};
 ghost use Rattle.breaker.specs.Rules.{no_counts};
 
-use crate::{Breaker, CLOSED, Counts, Delay, Finished, Settled, Shared};
+use crate::{Breaker, CLOSED, Counts, Delay, Shared};
 use error::Refusal;
 use history::MOST_ITEMS;
-use trip::{Built, CircuitBreakerBuilder};
+use trip::CircuitBreakerBuilder;
 
 // Nothing counted.
 // Ruled out: a success left over; a trial out.
@@ -21,40 +22,28 @@ pub fn no_counts() -> Counts
     }
 }
 
-// Puts a fresh breaker into record and storage.
+// A fresh breaker, whatever record there was, and its list in the storage.
 // Ruled out: a storage place left as it was; a generation kept from the old record.
-pub fn build(breaker: Breaker, list: &mut [u64], builder: CircuitBreakerBuilder) -> Settled
-    ensures { after (finished_told result.answer) result.breaker list.new ≡ built builder breaker list.old }
+#[tactic(auto, unfolding(crate::specs::Calls::built))]
+pub fn build(list: &mut [u64], builder: CircuitBreakerBuilder) -> Result<Breaker, Refusal>
+    ensures { (b : Breaker) → done_by_value result b list.new ≡ built builder b list.old }
 {
     if list.len() != history::PLACES {
-        return Settled {
-            answer: Finished::Refused(Refusal::Storage),
-            breaker,
-        };
+        return Err(Refusal::Storage);
     }
-    match builder.config() {
-        Built::Refused(r) => Settled {
-            answer: Finished::Refused(r),
-            breaker,
+    let config = builder.config()?;
+    let _emptied = history::clear(list, MOST_ITEMS);
+    Ok(Breaker {
+        config,
+        shared: Shared {
+            state: CLOSED,
+            generation: 0,
+            run: 0,
+            counts: no_counts(),
+            open_until: 0,
+            len: 0,
         },
-        Built::Made(config) => {
-            let _emptied = history::clear(list, MOST_ITEMS);
-            Settled {
-                answer: Finished::Done,
-                breaker: Breaker {
-                    config,
-                    shared: Shared {
-                        state: CLOSED,
-                        generation: 0,
-                        run: 0,
-                        counts: no_counts(),
-                        open_until: 0,
-                        len: 0,
-                    },
-                },
-            }
-        }
-    }
+    })
 }
 
 // Every delay that is told is made here.

@@ -16,7 +16,7 @@ pub use sound::items_of;
 use sound::{sound_policy, sound_shared};
 use trip::Config;
 
-// The states of a breaker.
+// The states of a breaker: numbers, since a caller in C may hand in a record with any.
 pub const CLOSED: u8 = 0;
 
 pub const HALF_OPEN: u8 = 1;
@@ -25,7 +25,7 @@ pub const OPEN: u8 = 2;
 
 // What is counted in HalfOpen.
 #[repr(C)]
-#[derive(Clone, Copy)]
+#[derive(Clone, Copy, Debug, PartialEq, Eq)]
 pub struct Counts {
     // trials that are out
     pub inflight: u32,
@@ -36,7 +36,7 @@ pub struct Counts {
 
 // What calls change of a breaker, in document 01's order.
 #[repr(C)]
-#[derive(Clone, Copy)]
+#[derive(Clone, Copy, Debug, PartialEq, Eq)]
 pub struct Shared {
     // CLOSED, HALF_OPEN or OPEN
     pub state: u8,
@@ -50,7 +50,7 @@ pub struct Shared {
 }
 
 #[repr(C)]
-#[derive(Clone, Copy)]
+#[derive(Clone, Copy, Debug, PartialEq, Eq)]
 pub struct Breaker {
     pub config: Config,
     pub shared: Shared,
@@ -58,176 +58,98 @@ pub struct Breaker {
 
 // An admission: the generation it was made under, and whether it holds a trial.
 #[repr(C)]
-#[derive(Clone, Copy)]
+#[derive(Clone, Copy, Debug, PartialEq, Eq)]
 pub struct Ticket {
     pub generation: u64,
     pub probe: bool,
 }
 
-#[derive(Clone, Copy)]
+#[derive(Clone, Copy, Debug, PartialEq, Eq)]
 pub struct Delay {
     pub ms: u64,
 }
 
-// What an inner limiter replied (decision.rs of the Rust).
-#[derive(Clone, Copy)]
+// What an inner limiter replied (decision.rs of the Rust). To a reservation it replies the wait before it, or none: `Option<Delay>`.
+#[derive(Clone, Copy, Debug, PartialEq, Eq)]
 pub enum Decision {
     Acquired,
     Retry(Delay),
     Impossible,
 }
 
-// The wait before a retry, or none.
-#[derive(Clone, Copy)]
-pub enum RetryAfter {
-    After(Delay),
-    Nothing,
-}
-
-// What an inner limiter replied to a reservation.
-#[derive(Clone, Copy)]
-pub enum Reservation {
-    Wait(Delay),
-    Nothing,
-}
-
-#[derive(Clone, Copy)]
-pub enum Admission {
-    Granted(Ticket),
+// Why a call was not admitted: record and list are as they were.
+#[derive(Clone, Copy, Debug, PartialEq, Eq)]
+pub enum NotAdmitted {
+    // the breaker sheds, and the delay after which it may admit
     Shed(Delay),
     Refused(Refusal),
 }
 
-#[derive(Clone, Copy)]
-pub enum Finished {
-    Done,
-    Refused(Refusal),
+impl From<Refusal> for NotAdmitted {
+    ghost use Rattle.breaker.specs.declared.NotAdmitted.TheVariants.{Refused};
+
+    ghost from_gives = { λ r e. e ≡ Refused r };
+
+    fn from(refusal: Refusal) -> NotAdmitted {
+        NotAdmitted::Refused(refusal)
+    }
 }
 
-#[derive(Clone, Copy)]
+impl From<Delay> for NotAdmitted {
+    ghost use Rattle.breaker.specs.declared.NotAdmitted.TheVariants.{Shed};
+
+    ghost from_gives = { λ d e. e ≡ Shed d };
+
+    fn from(delay: Delay) -> NotAdmitted {
+        NotAdmitted::Shed(delay)
+    }
+}
+
+// What an admission with the inner limiter's reply comes to.
+#[derive(Clone, Copy, Debug, PartialEq, Eq)]
 pub enum Tried {
     Granted(Ticket),
-    Shed(Delay),
+    // the inner limiter says retry, and its delay is not told
     Retry,
     Impossible { cost: u32, capacity: u32 },
-    Refused(Refusal),
 }
 
+// The answer of a call by value, and the record after it.
 #[derive(Clone, Copy)]
-pub enum Standing {
-    Admits,
-    Shed(Delay),
-    Refused(Refusal),
-}
-
-// A notice to give so much back to the inner limiter.
-#[derive(Clone, Copy)]
-pub enum Notice {
-    Refund(u32),
-    Refused(Refusal),
-}
-
-#[derive(Clone, Copy)]
-pub enum Decided {
-    Is(Decision),
-    Refused(Refusal),
-}
-
-#[derive(Clone, Copy)]
-pub enum Reserved {
-    Is(Reservation),
-    Refused(Refusal),
-}
-
-#[derive(Clone, Copy)]
-pub enum Counted {
-    Count(u64),
-    Refused(Refusal),
-}
-
-// What the tests before a call come to.
-#[derive(Clone, Copy)]
-pub enum Tested {
-    Sound,
-    Refused(Refusal),
-}
-
-// The answer of a call that tells no more than a refusal, and the record after it.
-#[derive(Clone, Copy)]
-pub struct Settled {
-    pub answer: Finished,
-    pub breaker: Breaker,
-}
-
-#[derive(Clone, Copy)]
-pub struct Admitted {
-    pub answer: Admission,
-    pub breaker: Breaker,
-}
-
-#[derive(Clone, Copy)]
-pub struct TriedAdmission {
-    pub answer: Tried,
-    pub breaker: Breaker,
-}
-
-#[derive(Clone, Copy)]
-pub struct Noticed {
-    pub answer: Notice,
-    pub breaker: Breaker,
-}
-
-#[derive(Clone, Copy)]
-pub struct Acquisition {
-    pub answer: Decided,
-    pub breaker: Breaker,
-}
-
-#[derive(Clone, Copy)]
-pub struct Reserving {
-    pub answer: Reserved,
+pub struct Answered<A> {
+    pub answer: A,
     pub breaker: Breaker,
 }
 
 // Whether the record alone is sound.
 // Ruled out: settings that are not normalised; a count above 0 outside HalfOpen.
+#[tactic(auto, unfolding(crate::specs::Record::sound_config))]
 pub fn sound_record(breaker: Breaker) -> bool
     ensures { result ≡ sound_record breaker }
 {
     let c = breaker.config;
-    if !sound_policy(c) {
-        return false;
-    }
-    if c.required < 1 {
-        return false;
-    }
-    if c.trials < c.required {
-        return false;
-    }
-    sound_shared(c, breaker.shared)
+    sound_policy(c) && 1 <= c.required && c.required <= c.trials && sound_shared(c, breaker.shared)
 }
 
 // Whether a record and its list are sound.
 // Ruled out: one that leaves out the places past the list; one that leaves out the record.
+#[tactic(auto, unfolding(crate::specs::Record::sound, crate::specs::Record::sound_config))]
 pub fn is_sound(breaker: Breaker, list: &[u64]) -> bool
     ensures { result ≡ sound breaker list.now }
 {
-    if !sound_record(breaker) {
-        return false;
-    }
-    history::sound_list(list, breaker.shared.len, items_of(breaker.config))
+    sound_record(breaker) && history::sound_list(list, breaker.shared.len, items_of(breaker.config))
 }
 
 // The tests before every call but a build: 3, then 4.
 // Ruled out: soundness tested before the storage; a refusal of a sound breaker.
-pub fn test(breaker: Breaker, list: &[u64]) -> Tested
-    ensures { result ≡ guarded Tested.Refused Tested.Sound breaker list.now }
+pub fn test(breaker: Breaker, list: &[u64]) -> Result<(), Refusal>
+    ensures { result ≡ guarded Err (Ok tt) breaker list.now }
 {
     if list.len() != history::PLACES {
-        return Tested::Refused(Refusal::Storage);
+        return Err(Refusal::Storage);
     }
     if !is_sound(breaker, list) {
-        return Tested::Refused(Refusal::Unsound);
+        return Err(Refusal::Unsound);
     }
-    Tested::Sound
+    Ok(())
 }

@@ -10,85 +10,45 @@ use trip::{Config, ONE_BITS, POLICY_CONSECUTIVE, POLICY_RATIO, POLICY_WINDOWED, 
 pub(crate) fn sound_ratio(bits: u64) -> bool
     ensures { result ≡ sound_ratio bits }
 {
-    if bits == SIGN_BIT {
-        return true;
-    }
-    bits <= ONE_BITS
+    bits == SIGN_BIT || bits <= ONE_BITS
 }
 
+#[tactic(auto, unfolding(crate::specs::Record::sound_policy))]
 pub(crate) fn sound_policy(c: Config) -> bool
     ensures { result ≡ sound_policy c }
 {
-    if c.kind == POLICY_CONSECUTIVE {
-        if c.limit < 1 {
-            return false;
+    match c.kind {
+        POLICY_CONSECUTIVE => {
+            1 <= c.limit && c.ratio_bits == 0 && c.min_calls == 0 && c.period_ms == 0
         }
-        if c.ratio_bits != 0 {
-            return false;
+        POLICY_RATIO => {
+            1 <= c.limit
+                && c.limit <= MOST_ITEMS
+                && sound_ratio(c.ratio_bits)
+                && c.min_calls <= c.limit
+                && c.period_ms == 0
         }
-        if c.min_calls != 0 {
-            return false;
+        POLICY_WINDOWED => {
+            1 <= c.limit && c.limit <= MOST_ITEMS && c.ratio_bits == 0 && c.min_calls == 0
         }
-        return c.period_ms == 0;
+        _ => false,
     }
-    if c.kind == POLICY_RATIO {
-        if c.limit < 1 {
-            return false;
-        }
-        if MOST_ITEMS < c.limit {
-            return false;
-        }
-        if !sound_ratio(c.ratio_bits) {
-            return false;
-        }
-        if c.limit < c.min_calls {
-            return false;
-        }
-        return c.period_ms == 0;
-    }
-    if c.kind != POLICY_WINDOWED {
-        return false;
-    }
-    if c.limit < 1 {
-        return false;
-    }
-    if MOST_ITEMS < c.limit {
-        return false;
-    }
-    if c.ratio_bits != 0 {
-        return false;
-    }
-    c.min_calls == 0
 }
 
 fn is_idle(counts: Counts) -> bool
     ensures { result ≡ is_idle counts }
 {
-    if counts.inflight != 0 {
-        return false;
-    }
-    if counts.trait_probes != 0 {
-        return false;
-    }
-    counts.successes == 0
+    counts.inflight == 0 && counts.trait_probes == 0 && counts.successes == 0
 }
 
+#[tactic(auto, unfolding(crate::specs::Record::sound_shared))]
 pub(crate) fn sound_shared(c: Config, h: Shared) -> bool
     ensures { result ≡ sound_shared c h }
 {
-    if OPEN < h.state {
-        return false;
-    }
-    if c.trials < h.counts.inflight {
-        return false;
-    }
-    if h.counts.successes >= c.required {
-        return false;
-    }
-    if h.state == HALF_OPEN {
-        return true;
-    }
-    is_idle(h.counts)
+    h.state <= OPEN
+        && h.counts.inflight <= c.trials
+        && h.counts.successes < c.required
+        && (h.state == HALF_OPEN || is_idle(h.counts))
 }
 
 // What the list of a breaker with these settings holds.
@@ -96,11 +56,9 @@ pub(crate) fn sound_shared(c: Config, h: Shared) -> bool
 pub fn items_of(c: Config) -> Items
     ensures { result ≡ items_of c }
 {
-    if c.kind == POLICY_CONSECUTIVE {
-        return Items::Nothing;
+    match c.kind {
+        POLICY_CONSECUTIVE => Items::Nothing,
+        POLICY_RATIO => Items::Outcomes(c.limit),
+        _ => Items::Times,
     }
-    if c.kind == POLICY_RATIO {
-        return Items::Outcomes(c.limit);
-    }
-    Items::Times
 }

@@ -3,36 +3,24 @@
 #![tactic(auto)]
 
 mod calls;
-mod columns;
+mod changes;
 mod lines;
-mod record;
+mod numbers;
 mod replay;
 mod tallies;
-mod world;
 
-use lines::{blank_line, read_line};
-use world::{Bytes, World};
+use anyhow::{Context, Result};
+use replay::Replay;
+use std::io;
 
-// Room for the sample. What does not fit is cut, and the counts differ.
-fn input_buffer() -> [u8; 1000000] {
-    [0; 1000000]
-}
-
-fn replay_all(s: &[u8], w: &mut World, b: &mut Bytes) {
-    let mut at: usize = 0;
-    while at < s.len() {
-        let mut n = blank_line();
-        at = read_line(s, at, &mut n);
-        replay::replay(w, b, &n);
+fn main(rt: HostRuntime) -> Result<()> {
+    let text = io::read_to_string(rt.alloc(), rt.stdin())?;
+    let mut replay = Replay::new();
+    for (number, line) in (1u64..).zip(text.as_str().lines()) {
+        replay
+            .line(rt.alloc(), number, line)
+            .context(format_args!("line {number}"))?;
     }
-}
-
-fn main(rt: HostRuntime) {
-    let mut input = input_buffer();
-    let n = input::read_full(&mut rt.stdin(), &mut input);
-    let mut w = world::world();
-    let mut b = world::bytes();
-    world::mark(&mut w);
-    replay_all(&input[..n], &mut w, &mut b);
-    tallies::show_tallies(&rt, &w);
+    replay.tallies.show(&rt)?;
+    Ok(())
 }

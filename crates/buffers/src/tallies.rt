@@ -1,73 +1,66 @@
 // What the program counts, and how it shows it.
-ghost use Rattle.std.specs.Prelude.{◌+◌, ◌<◌, ◌≤◌};
+use crate::calls::Call;
+use std::{fmt, io};
 
-use crate::columns as at;
-use crate::world::{COUNTS, TOLD, World};
-use std::io::Write;
+// How often a call was told each number of the table.
+#[derive(Clone, Copy, Default)]
+struct Row([u64; 16]);
 
-// From COUNTS on 16 counts for each call, by the number that it was told. Then all calls, those that differ, the line of the first of them,
-// and the lines read.
-const CALLS: usize = 8312;
-
-const DIFFER: usize = 8313;
-
-const FIRST: usize = 8314;
-
-pub(crate) const LINES: usize = 8315;
-
-pub(crate) fn tally(w: &mut World, at: usize)
-    requires { at < 8320 }
-{
-    w[at] = std::num::wrapping_add_u64(w[at], 1);
+#[derive(Clone, Copy, Default)]
+pub(crate) struct Tallies {
+    save: Row,
+    restore: Row,
+    reconfigure: Row,
+    check: Row,
+    calls: u64,
+    // the calls that differ, and the line of the first of them
+    differences: u64,
+    first: Option<u64>,
 }
 
-// Where the counts of a call begin.
-fn row(kind: u64) -> usize
-    ensures { result ≤ 8296 }
-{
-    COUNTS + (kind % 4 * 16) as usize
+// Counts one more.
+fn count(tally: &mut u64) {
+    *tally = tally.saturating_add(1);
 }
 
-// Counts a call and the number that it was told, which is below 16.
-pub(crate) fn tally_told(w: &mut World, kind: u64) {
-    let number = (w[TOLD] % 16) as usize;
-    tally(w, row(kind) + number);
-    tally(w, CALLS);
-}
-
-// Counts a call that differs.
-pub(crate) fn tally_difference(w: &mut World) {
-    if w[DIFFER] == 0 {
-        w[FIRST] = w[LINES];
+impl fmt::Display for Row {
+    fn fmt<W: fmt::Write>(&self, f: &mut fmt::Formatter<W>) -> fmt::Result {
+        for tally in self.0 {
+            write!(f, " {tally}")?;
+        }
+        Ok(())
     }
-    tally(w, DIFFER);
 }
 
-// A name, and `count` counts from `first` on.
-fn show(rt: &HostRuntime, name: &str, w: &World, first: usize, count: usize)
-    requires { first + count ≤ 8320 }
-{
-    let _ = print!(rt; "{name}");
-    let mut i: usize = 0;
-    while i < count {
-        let n = w[first + i];
-        let _ = print!(rt; " {n}");
-        i += 1;
+impl Tallies {
+    // Counts a call and the number that it was told.
+    pub(crate) fn count_told(&mut self, call: &Call, number: u32) {
+        let row = match call {
+            Call::Save(_) => &mut self.save,
+            Call::Restore(_) => &mut self.restore,
+            Call::Reconfigure { .. } => &mut self.reconfigure,
+            Call::Check { .. } => &mut self.check,
+        };
+        if let Some(tally) = row.0.get_mut(number as usize) {
+            count(tally);
+        }
+        count(&mut self.calls);
     }
-    let _ = println!(rt; "");
-}
 
-fn show_calls(rt: &HostRuntime, w: &World) {
-    show(rt, "save", w, row(at::SAVE), 16);
-    show(rt, "restore", w, row(at::RESTORE), 16);
-    show(rt, "reconfigure", w, row(at::RECONFIGURE), 16);
-    show(rt, "check_block", w, row(at::CHECK), 16);
-}
+    // Counts a call that differs, in the line of this number.
+    pub(crate) fn count_difference(&mut self, number: u64) {
+        count(&mut self.differences);
+        self.first = self.first.or(Some(number));
+    }
 
-pub(crate) fn show_tallies(rt: &HostRuntime, w: &World) {
-    let _ = println!(rt; "told 0 1 2 3 4 5 6 7 8 9 10 11 12 13 14 15");
-    show_calls(rt, w);
-    show(rt, "calls", w, CALLS, 1);
-    show(rt, "differ", w, DIFFER, 1);
-    show(rt, "first at line", w, FIRST, 1);
+    pub(crate) fn show(&self, rt: &impl Print) -> io::Result<()> {
+        println!(rt; "told 0 1 2 3 4 5 6 7 8 9 10 11 12 13 14 15")?;
+        println!(rt; "save{}", self.save)?;
+        println!(rt; "restore{}", self.restore)?;
+        println!(rt; "reconfigure{}", self.reconfigure)?;
+        println!(rt; "check_block{}", self.check)?;
+        println!(rt; "calls {}", self.calls)?;
+        println!(rt; "differ {}", self.differences)?;
+        println!(rt; "first at line {}", self.first.unwrap_or(0))
+    }
 }

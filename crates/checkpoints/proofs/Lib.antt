@@ -1,4 +1,3 @@
 -- Laws, by the calls that use them.
 pub mod Making
-pub mod OneToOne
 pub mod Orders

@@ -7,7 +7,7 @@ use native.Mathlib.Omega.{arith}
 use lib.ListN.{length, take, drop, length-append}
 use lib.Seq.{take_at, drop_at, length-take-le}
 use borrow.Author.Tests.{le-leb, lt-leb}
-use Rattle.std.proofs.Common.{if◌then◌else◌}
+use Rattle.std.proofs.Common.{if◌then◌else◌, Some, Result, Ok, Err}
 use Rattle.error.specs.Told.{refused, nothing}
 use Rattle.error.specs.declared.Refusal.{Refusal}
 use Rattle.error.specs.declared.Refusal.TheVariants.{Name}
@@ -16,26 +16,19 @@ use Rattle.history.proofs.Laws.{take-drop}
 use Rattle.history.proofs.Sound as List·
 use Rattle.trip.specs.declared.Config.{Config}
 use Rattle.breaker.specs.declared.Breaker.{Breaker}
-use Rattle.breaker.specs.declared.Finished.{Finished}
-use Rattle.breaker.specs.declared.Finished.TheVariants as FinishedIs
-use Rattle.breaker.specs.declared.Tested.{Tested}
-use Rattle.breaker.specs.declared.Tested.TheVariants as TestedIs
 use Rattle.breaker.specs.Record.{State, state, stored, items_of, sound}
 use Rattle.breaker.specs.Rules.{done, returned}
-use Rattle.breaker.specs.Answers.{finished_told}
 use Rattle.breaker.specs.Calls.{after, kept, guarded}
-use Rattle.breaker.proofs.Record.{sound→, stored-state, padded-state}
 use Rattle.breaker.proofs.Guard.{guarded-done}
+use Rattle.breaker.proofs.Record.{sound→, stored-state, padded-state}
 use Rattle.le_bytes.specs.Bytes.{written}
 use Rattle.le_bytes.proofs.Written.{width-most}
 use Rattle.blocks.specs.Block.{summed}
 use Rattle.blocks.specs.Run.{count_of, run_of, every, put_run}
 use Rattle.blocks.proofs.Joins.{run_in, length_run}
 use Rattle.body.specs.Save.{Save, Good, is_name, body_of, size_of, save_of, put_save, width_of, BodyRead}
-use Rattle.body.specs.declared.ReadAs.TheVariants as ReadIs
 use Rattle.body.proofs.Records.{room-widths}
 use Rattle.body.proofs.Saves.{name-eight, save-fits, save-length, width-le}
-use Rattle.checkpoints.specs.declared.Saving.TheVariants as SavingIs
 use Rattle.saves.specs.Buffer.{runs_of, same_bytes, is_there, AllGood, Reads, saves, all}
 use Rattle.checkpoints.specs.Calls.{save_after, saving_told, saved_new, saved_in, came_back}
 use Rattle.saves.proofs.Names.{same_not, framed→}
@@ -53,12 +46,12 @@ module _ (b : Breaker) (s : List ℕ) (ok : sound b s ≡ true) where
   pub sound-size : (86 ≤ size_of b) × (size_of b ≤ 32854)
   sound-size = (omega (arith, room-widths), omega (arith, room-widths, facts.le, width-most b.shared.len (width_of b) (width-le b)))
 
-pub refused-unsound : (b : Breaker) (s : List ℕ) (r : Refusal) → TestedIs.Refused r ≡ guarded TestedIs.Refused TestedIs.Sound b s → sound b s ≡ true → ⊥
-refused-unsound b s r e ok = false≢true (ap passes (e ∙ sym (guarded-done TestedIs.Refused TestedIs.Sound b s ok)))
+pub refused-unsound : (b : Breaker) (s : List ℕ) (r : Refusal) → Err r ≡ guarded Err (Ok (tt {0})) b s → sound b s ≡ true → ⊥
+refused-unsound b s r e ok = false≢true (ap is_ok (e ∙ sym (guarded-done Err (Ok (tt {0})) b s ok)))
   where
-    passes : Tested → Bool
-    passes TestedIs.Sound = true
-    passes (TestedIs.Refused r) = false
+    is_ok : Result (Unit {0}) Refusal → Bool
+    is_ok (Ok u) = true
+    is_ok (Err r) = false
 
 -- ---- a new save
 module _ (name : List ℕ) (b : Breaker) (s buffer : List ℕ) (used : ℕ) where
@@ -70,7 +63,7 @@ module _ (name : List ℕ) (b : Breaker) (s buffer : List ℕ) (used : ℕ) wher
 
   pub new-saved : is_name name ≡ true → used + 512 * count_of (size_of b) ≤ length buffer → sound b s ≡ true → (room body next : List ℕ) → 32854 ≤ length room
       → body ≡ put_save name b s room → next ≡ put_run used 1 (take (size_of b) body) buffer
-      → save_after (saving_told (SavingIs.Saved (used + 512 * count_of (size_of b)))) next ≡ saved_new name b s buffer used
+      → save_after (saving_told (Ok (used + 512 * count_of (size_of b)))) next ≡ saved_new name b s buffer used
   new-saved e h ok room body next l p q =
       let n = name-eight name e in
       let z = sound-size b s ok in
@@ -80,7 +73,7 @@ module _ (name : List ℕ) (b : Breaker) (s buffer : List ℕ) (used : ℕ) wher
       let bt : take (size_of b) body ≡ xs = ap (λ (y : List ℕ). take (size_of b) y) bw ∙ take_at xs (drop (0 + length xs) room) (size_of b) lx in
       let nw : next ≡ written used (run_of 1 xs) buffer =
       q ∙ ap (λ (y : List ℕ). put_run used 1 y buffer) bt ∙ sym (run_in used 1 xs buffer (omega arith) (subst (λ (k : ℕ). used + 512 * count_of k ≤ length buffer) (sym lx) h)) in
-      simp (e, le-leb (used + 512 * count_of (size_of b)) (length buffer) h) (ap (λ (y : List ℕ). save_after (saving_told (SavingIs.Saved (used + 512 * count_of (size_of b)))) y) nw)
+      simp (e, le-leb (used + 512 * count_of (size_of b)) (length buffer) h) (ap (λ (y : List ℕ). save_after (saving_told (Ok (used + 512 * count_of (size_of b)))) y) nw)
 
 -- ---- a return
 pub back-absent : (name : List ℕ) (ss : List Save) (b : Breaker) (s : List ℕ) → is_there name ss ≡ false → after (refused Name) b s ≡ came_back name ss b s
@@ -123,7 +116,7 @@ pub read-frame : (buffer : List ℕ) (used : ℕ) (ss : List Save) → Reads buf
 read-frame buffer used ss (all f s v ws a e) = let z = framed→ (length buffer) used f in (z.1, z.0)
 
 -- ---- what coming back leaves
-pub came-back : (x : Save) (g : Good x) (saved present : Breaker) (part list : List ℕ) (next : Breaker) → part ≡ body_of x → BodyRead part (ReadIs.Saved saved)
+pub came-back : (x : Save) (g : Good x) (saved present : Breaker) (part list : List ℕ) (next : Breaker) → part ≡ body_of x → BodyRead part (Some saved)
     → ((y : Save) → Good y → part ≡ body_of y → y.breaker ≡ saved → list ≡ padded y.items)
     → ((c : Config) (st : State) → saved ≡ stored c st → next ≡ stored c (returned present.shared.generation st))
     → after nothing next list ≡ kept x.breaker.config (done (returned present.shared.generation (state x.breaker (padded x.items))))
@@ -138,10 +131,7 @@ came-back x g saved present part list next ep r fl fn =
     let ev : padded x.items ≡ padded st.list = padded-state x.breaker (padded x.items) g.is_sound in
     ap₂ (λ (n : Breaker) (l : List ℕ). after nothing n l) en (el ∙ ev)
 
--- ---- a refusal, and the part of the buffer where a save stands
-pub refused-left : (a : Finished) (next b : Breaker) (s : List ℕ) (r : Refusal) → a ≡ FinishedIs.Refused r → next ≡ b → after (finished_told a) next s ≡ after (refused r) b s
-refused-left a next b s r e q = ap₂ (λ (x : Finished) (y : Breaker). after (finished_told x) y s) e q
-
+-- ---- the part of the buffer where a save stands
 runs-whole : (hs : List Save) → length (runs_of hs) % 512 ≡ 0
 unfolding runs_of
 runs-whole [] = refl

@@ -1,6 +1,7 @@
 -- W-201: saving a breaker, and coming back to it. Each tests 3 and 4, then the buffer, then 15. Definitions only.
-use Rattle.std.specs.Prelude.{ℕ, ◌+◌, ◌*◌, ◌&&◌, List, [], ◌∷◌, leb, length, if◌then◌else◌}
-use Rattle.error.specs.Told.{Told, tell, refused}
+use Rattle.std.specs.Prelude.{ℕ, ◌+◌, ◌*◌, ◌&&◌, List, [], ◌∷◌, leb, length, Result, Ok, if◌then◌else◌}
+use Rattle.error.specs.Told.{Told, tell, refused, told_by}
+use Rattle.error.specs.declared.Refusal.{Refusal}
 use Rattle.error.specs.declared.Refusal.TheVariants.{Name}
 use Rattle.history.specs.Items.{padded}
 use Rattle.breaker.specs.declared.Breaker.{Breaker}
@@ -10,8 +11,6 @@ use Rattle.breaker.specs.Calls.{After, after, kept, guarded}
 use Rattle.le_bytes.specs.Bytes.{written}
 use Rattle.blocks.specs.Run.{count_of, run_of}
 use Rattle.body.specs.Save.{Save, body_of, size_of, is_name, save_of}
-use Rattle.checkpoints.specs.declared.Saving.{Saving}
-use Rattle.checkpoints.specs.declared.Saving.TheVariants as SavingIs
 use Rattle.saves.specs.Buffer.{Reading, wrong, saves, same_bytes, is_there}
 
 -- ---- "save"
@@ -24,15 +23,14 @@ pub record SaveAfter : Type 0 where
 abbrev pub save_after : Told → List ℕ → SaveAfter
 save_after t buffer = record { told = t; buffer = buffer }
 
-abbrev pub saving_told : Saving → Told
-saving_told (SavingIs.Saved used) = tell 0 (used ∷ [])
-saving_told (SavingIs.Refused r) = refused r
+abbrev pub saving_told : Result ℕ Refusal → Told
+saving_told = told_by (λ used. tell 0 (used ∷ []))
 
 -- "put at the used length …; the used length after it is returned"; "15 for an asked name that isn't ASCII … or blocks that don't fit"
 abbrev pub saved_new : List ℕ → Breaker → List ℕ → List ℕ → ℕ → SaveAfter
 saved_new name b s buffer used =
     if is_name name && leb (used + 512 * count_of (size_of b)) (length buffer)
-    then save_after (saving_told (SavingIs.Saved (used + 512 * count_of (size_of b)))) (written used (run_of 1 (body_of (save_of name b s))) buffer)
+    then save_after (saving_told (Ok (used + 512 * count_of (size_of b)))) (written used (run_of 1 (body_of (save_of name b s))) buffer)
     else save_after (refused Name) buffer
 
 -- and 15 for one that "is already there on saving"

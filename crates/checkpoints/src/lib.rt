@@ -4,15 +4,7 @@
 mod calls;
 
 pub use calls::{restore, save};
-use error::Refusal;
 use saves::ROOM;
-
-// What a save comes to: the used length after it, or why it was refused.
-#[derive(Clone, Copy)]
-pub enum Saving {
-    Saved(usize),
-    Refused(Refusal),
-}
 
 // Room for a body.
 fn room() -> [u8; ROOM] {

@@ -1,28 +1,22 @@
 -- Nothing is lost of a wait's ticket: what a caller holds after a call, read again, is what the rule leaves. Assumes nothing.
-use mathlib.Core.Path.{◌≡◌, refl, ap}
-use mathlib.Core.Bool.{Bool, not}
-use mathlib.Core.List.{List}
-use Prim.Native.Nat.{ℕ}
-use lib.Dec.{eqb}
-use lib.ListN.{length}
+use Rattle.std.proofs.Common.{◌≡◌, ℕ, Bool, not, List, refl, ap, eqb, length, Result, Ok, Err}
 use Rattle.error.specs.Told.{refused}
 use Rattle.error.specs.declared.Refusal.{Refusal}
-use Rattle.error.specs.declared.Refusal.TheVariants.{Time, Limit, Storage, Unsound, Full, Turn, Damaged, Version, Name}
+use Rattle.error.specs.declared.Refusal.TheVariants.{Storage, Unsound}
 use Rattle.error.proofs.Choice.{flag-bit, if-cases}
+use Rattle.error.proofs.OneToOne.{number-not-0}
 use Rattle.breaker.specs.declared.Breaker.{Breaker}
 use Rattle.breaker.specs.Record.{settings, state, sound}
 use Rattle.breaker.specs.Rules.{Admitted, granted, shed, admit}
 use Rattle.breaker.specs.Calls.{guarded}
 use Rattle.wait.specs.declared.Wait.{Wait}
 use Rattle.wait.specs.declared.Observed.{Observed}
-use Rattle.wait.specs.declared.Started.{Started}
-use Rattle.wait.specs.declared.Started.TheVariants as StartedIs
 use Rattle.wait.specs.declared.Turned.{Turned}
 use Rattle.wait.specs.declared.Turned.TheVariants as TurnedIs
+use Rattle.wait.specs.declared.Turning.{Turning}
 use Rattle.wait.specs.declared.Ran.{Ran}
 use Rattle.wait.specs.declared.Ran.TheVariants as RanIs
-use Rattle.wait.specs.declared.Dropped.{Dropped}
-use Rattle.wait.specs.declared.Dropped.TheVariants as DroppedIs
+use Rattle.wait.specs.declared.Dropping.{Dropping}
 use Rattle.wait.specs.Turns.{started}
 use Rattle.keep.specs.Keep.{keep}
 use Rattle.wait.specs.Manner.{turned, dropped}
@@ -53,41 +47,36 @@ module _ (handed : PlainPending) where
 
   module _ (b : Breaker) (s : List ℕ) where
     refused-held : (r : Refusal) → StartHeld (Waits.pending_after (refused r) b s p)
-    refused-held Time = refl
-    refused-held Limit = refl
-    refused-held Storage = refl
-    refused-held Unsound = refl
-    refused-held Full = refl
-    refused-held Turn = refl
-    refused-held Damaged = refl
-    refused-held Version = refl
-    refused-held Name = refl
+    refused-held r = rw (number-not-0 r) refl
 
     begins-held : (w : Wait) (x : Admitted) → StartHeld (Waits.begins w x b s p)
     begins-held w (granted t next) = plain_back (Waits.pending w t)
     begins-held w (shed ms) = refl
 
-    started-held : (x : Started) (reading : ℕ) → StartHeld (Waits.started_to x reading b s p)
-    started-held (StartedIs.Made w) reading = begins-held w (admit (settings b.config) reading (state b s))
-    started-held (StartedIs.Refused r) reading = refused-held r
+    started-held : (x : Result Wait Refusal) (reading : ℕ) → StartHeld (Waits.started_to x reading b s p)
+    started-held (Ok w) reading = begins-held w (admit (settings b.config) reading (state b s))
+    started-held (Err r) reading = refused-held r
 
     pub start-held : (reading clock : ℕ) (limited : Bool) (timeout : ℕ) → StartHeld (start_pending reading clock limited timeout b s p)
     unfolding start_pending
     start-held reading clock limited timeout = guarded-cases StartHeld (λ r. Waits.pending_after (refused r) b s p) _ b s refused-held (started-held (started clock limited timeout) reading)
 
-    turned-held : (x : Turned) (w : Wait) (reading capacity : ℕ) → TurnHeld (Waits.turned_to x w reading capacity b s p)
-    turned-held (TurnedIs.Next act) w reading capacity = refl
-    turned-held (TurnedIs.Ends e) w reading capacity = refl
-    turned-held (TurnedIs.Refused r) w reading capacity = refl
+    goes-held : (x : Turned) (w : Wait) (reading capacity : ℕ) → TurnHeld (Waits.goes_on x w reading capacity b s p)
+    goes-held (TurnedIs.Next act) w reading capacity = refl
+    goes-held (TurnedIs.Ends e) w reading capacity = refl
+
+    turned-held : (x : Result Turning Refusal) (reading capacity : ℕ) → TurnHeld (Waits.turned_to x reading capacity b s p)
+    turned-held (Ok x) reading capacity = goes-held x.answer x.wait reading capacity
+    turned-held (Err r) reading capacity = refl
 
     pub turn-held : (t : Observed) (reading capacity : ℕ) → TurnHeld (turn_pending t reading capacity b s p)
     unfolding turn_pending
-    turn-held t reading capacity = guarded-cases TurnHeld (λ r. Waits.pending_after (refused r) b s p) _ b s (λ r. refl) (turned-held (turned keep p.wait t).answer (turned keep p.wait t).wait reading capacity)
+    turn-held t reading capacity = guarded-cases TurnHeld (λ r. Waits.pending_after (refused r) b s p) _ b s (λ r. refl) (turned-held (turned keep p.wait t) reading capacity)
 
-    ran-held : (x : Ran) (w : Wait) (reading capacity : ℕ) → TurnHeld (Waits.ran_to x w reading capacity b s p)
-    ran-held (RanIs.Ends e) w reading capacity = refl
-    ran-held RanIs.Unfinished w reading capacity = refl
-    ran-held (RanIs.Refused r) w reading capacity = refl
+    ran-held : (x : Result Ran Refusal) (w : Wait) (reading capacity : ℕ) → TurnHeld (Waits.ran_to x w reading capacity b s p)
+    ran-held (Ok (RanIs.Ends e)) w reading capacity = refl
+    ran-held (Ok RanIs.Unfinished) w reading capacity = refl
+    ran-held (Err r) w reading capacity = refl
 
     pub run-held : (turns : List ℕ) (limit reading capacity : ℕ) → TurnHeld (run_pending turns limit reading capacity b s p).left
     unfolding run_pending
@@ -97,10 +86,10 @@ module _ (handed : PlainPending) where
         (λ e. guarded-cases Held (λ r. Waits.pending_run (Waits.pending_after (refused r) b s p) 0) _ b s (λ r. refl) (ran-held (runs keep p.wait turns limit).answer (runs keep p.wait turns limit).wait reading capacity))
         (λ e. refl)
 
-    dropped-held : (x : Dropped) (w : Wait) → TurnHeld (Waits.dropped_to x w b s p)
-    dropped-held (DroppedIs.GiveBack n) w = refl
-    dropped-held (DroppedIs.Refused r) w = refl
+    dropped-held : (x : Result Dropping Refusal) → TurnHeld (Waits.dropped_to x b s p)
+    dropped-held (Ok x) = refl
+    dropped-held (Err r) = refl
 
     pub drop-held : TurnHeld (drop_pending b s p)
     unfolding drop_pending
-    drop-held = guarded-cases TurnHeld (λ r. Waits.pending_after (refused r) b s p) _ b s (λ r. refl) (dropped-held (dropped keep p.wait).answer (dropped keep p.wait).wait)
+    drop-held = guarded-cases TurnHeld (λ r. Waits.pending_after (refused r) b s p) _ b s (λ r. refl) (dropped-held (dropped keep p.wait))

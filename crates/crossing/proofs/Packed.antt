@@ -1,37 +1,18 @@
 -- Nothing is lost where an answer is packed: what was told is read back from the four numbers. Assumes nothing.
-use Prim.Native.Nat.{ℕ}
-use mathlib.Core.Path.{◌≡◌, refl, sym, ap, ◌∙◌}
-use mathlib.Core.List.{[], ◌∷◌}
-use lib.Dec.{eqb}
-use lib.ListN.{take}
-use Rattle.std.proofs.Common.{if◌then◌else◌}
-use Rattle.error.specs.Told.{Told as Answer, tell, number_of, refused}
+use Rattle.std.proofs.Common.{◌≡◌, ℕ, List, [], ◌∷◌, refl, sym, ap, ◌∙◌, eqb, take, map, get_or, if◌then◌else◌, Option, Some, None, Result, Ok, Err}
+use Rattle.error.specs.Told.{Told as Answer, tell, nothing, number_of, refused, told_or, told_by}
 use Rattle.error.specs.declared.Refusal.{Refusal}
 use Rattle.error.specs.declared.Refusal.TheVariants.{Time, Limit, Storage, Unsound, Full, Turn, Damaged, Version, Name}
-use Rattle.blocks.specs.declared.CheckedAs.{CheckedAs}
-use Rattle.blocks.specs.declared.CheckedAs.TheVariants as CheckedIs
 use Rattle.blocks.specs.Block.{judged_told}
-use Rattle.breaker.specs.declared.Admission.{Admission}
-use Rattle.breaker.specs.declared.Admission.TheVariants as AdmissionIs
-use Rattle.breaker.specs.declared.Finished.{Finished}
-use Rattle.breaker.specs.declared.Finished.TheVariants as FinishedIs
+use Rattle.breaker.specs.declared.Ticket.{Ticket}
+use Rattle.breaker.specs.declared.Delay.{Delay}
+use Rattle.breaker.specs.declared.NotAdmitted.{NotAdmitted}
+use Rattle.breaker.specs.declared.NotAdmitted.TheVariants as NotAdmittedIs
 use Rattle.breaker.specs.declared.Tried.{Tried}
 use Rattle.breaker.specs.declared.Tried.TheVariants as TriedIs
-use Rattle.breaker.specs.declared.Standing.{Standing}
-use Rattle.breaker.specs.declared.Standing.TheVariants as StandingIs
-use Rattle.breaker.specs.declared.Notice.{Notice}
-use Rattle.breaker.specs.declared.Notice.TheVariants as NoticeIs
+use Rattle.breaker.specs.declared.Decision.{Decision}
 use Rattle.breaker.specs.declared.Decision.TheVariants as DecisionIs
-use Rattle.breaker.specs.declared.Decided.{Decided}
-use Rattle.breaker.specs.declared.Decided.TheVariants as DecidedIs
-use Rattle.breaker.specs.declared.Reservation.TheVariants as ReservationIs
-use Rattle.breaker.specs.declared.Reserved.{Reserved}
-use Rattle.breaker.specs.declared.Reserved.TheVariants as ReservedIs
-use Rattle.breaker.specs.declared.Counted.{Counted}
-use Rattle.breaker.specs.declared.Counted.TheVariants as CountedIs
-use Rattle.breaker.specs.Answers.{admission_told, finished_told, tried_told, standing_told, notice_told, decided_told, reserved_told, counted_told}
-use Rattle.checkpoints.specs.declared.Saving.{Saving}
-use Rattle.checkpoints.specs.declared.Saving.TheVariants as SavingIs
+use Rattle.breaker.specs.Answers.{decision_values, reservation_values, not_admitted, granted_told, inner_told, admission_told, finished_told, tried_told, standing_told, notice_told, decided_told, reserved_told, counted_told}
 use Rattle.checkpoints.specs.Calls.{saving_told}
 use Rattle.crossing.specs.declared.Told.{Told}
 use Rattle.crossing.specs.Crossing.{packed}
@@ -69,69 +50,92 @@ kind_width delayed n v =
     if eqb n 0 then (if eqb v delayed then 2 else 1)
     else 0
 
+-- ---- a refusal has no value
+
+-- so says a width, of the nine numbers
+abbrev pub Bare : (ℕ → ℕ → ℕ) → Type 0
+Bare width = map (λ n. width n 0) (1 ∷ 2 ∷ 3 ∷ 4 ∷ 5 ∷ 11 ∷ 13 ∷ 14 ∷ 15 ∷ []) ≡ 0 ∷ 0 ∷ 0 ∷ 0 ∷ 0 ∷ 0 ∷ 0 ∷ 0 ∷ 0 ∷ []
+
+module _ (width : ℕ → ℕ → ℕ) (bare : Bare width) where
+  nth : (i : ℕ) → get_or (map (λ n. width n 0) (1 ∷ 2 ∷ 3 ∷ 4 ∷ 5 ∷ 11 ∷ 13 ∷ 14 ∷ 15 ∷ [])) i 0 ≡ get_or (0 ∷ 0 ∷ 0 ∷ 0 ∷ 0 ∷ 0 ∷ 0 ∷ 0 ∷ 0 ∷ []) i 0
+  nth i = ap (λ (ws : List ℕ). get_or ws i 0) bare
+
+  no-value : (r : Refusal) → width (number_of r) 0 ≡ 0
+  no-value Time = nth 0
+  no-value Limit = nth 1
+  no-value Storage = nth 2
+  no-value Unsound = nth 3
+  no-value Full = nth 4
+  no-value Turn = nth 5
+  no-value Damaged = nth 6
+  no-value Version = nth 7
+  no-value Name = nth 8
+
+  pub refused-back : (r : Refusal) (zeros : List ℕ) → tell (number_of r) (take (width (number_of r) 0) zeros) ≡ refused r
+  refused-back r zeros = ap (λ (k : ℕ). tell (number_of r) (take k zeros)) (no-value r)
+
+-- ---- an answer is read back where what it tells, and what is told in its place, is
+
+module _ (width : ℕ → ℕ → ℕ) where
+  abbrev Back : Answer → Type 0
+  Back t = restored width (packed t) ≡ t
+
+  or-back : {A E : Type 0} (answer : A → Answer) (instead : E → Answer) → ((a : A) → Back (answer a)) → ((e : E) → Back (instead e)) → (x : Result A E) → Back (told_or answer instead x)
+  or-back answer instead f g (Ok a) = f a
+  or-back answer instead f g (Err e) = g e
+
+  by-back : {A : Type 0} (answer : A → Answer) → Bare width → ((a : A) → Back (answer a)) → (x : Result A Refusal) → Back (told_by answer x)
+  by-back answer bare f = or-back answer refused f (λ r. refused-back width bare r (0 ∷ 0 ∷ 0 ∷ []))
+
+  shed-back : {A : Type 0} (answer : A → Answer) → Bare width → ((v : ℕ) → width 6 v ≡ 1) → ((a : A) → Back (answer a)) → (x : Result A NotAdmitted) → Back (told_or answer not_admitted x)
+  shed-back answer bare one f = or-back answer not_admitted f instead
+    where
+      instead : (e : NotAdmitted) → Back (not_admitted e)
+      instead (NotAdmittedIs.Shed d) = ap (λ (k : ℕ). tell 6 (take k (d.ms ∷ 0 ∷ 0 ∷ []))) (one d.ms)
+      instead (NotAdmittedIs.Refused r) = refused-back width bare r (0 ∷ 0 ∷ 0 ∷ [])
+
 -- ---- the ten answers
 
--- a reading of the number alone that is right for each refusal is right for all
-abbrev Right : (ℕ → Answer) → ℕ → Type 0
-Right back n = back n ≡ tell n []
+pub admission-back : (a : Result Ticket NotAdmitted) → restored ticket_width (packed (admission_told a)) ≡ admission_told a
+admission-back = shed-back ticket_width granted_told refl (λ v. refl) (λ t. refl)
 
-pub refused-back : (back : ℕ → Answer) (r : Refusal)
-    → Right back 1 → Right back 2 → Right back 3 → Right back 4 → Right back 5 → Right back 11 → Right back 13 → Right back 14 → Right back 15
-    → back (number_of r) ≡ refused r
-refused-back back Time p1 p2 p3 p4 p5 p11 p13 p14 p15 = p1
-refused-back back Limit p1 p2 p3 p4 p5 p11 p13 p14 p15 = p2
-refused-back back Storage p1 p2 p3 p4 p5 p11 p13 p14 p15 = p3
-refused-back back Unsound p1 p2 p3 p4 p5 p11 p13 p14 p15 = p4
-refused-back back Full p1 p2 p3 p4 p5 p11 p13 p14 p15 = p5
-refused-back back Turn p1 p2 p3 p4 p5 p11 p13 p14 p15 = p11
-refused-back back Damaged p1 p2 p3 p4 p5 p11 p13 p14 p15 = p13
-refused-back back Version p1 p2 p3 p4 p5 p11 p13 p14 p15 = p14
-refused-back back Name p1 p2 p3 p4 p5 p11 p13 p14 p15 = p15
+pub finished-back : (a : Result (Unit {0}) Refusal) → restored delay_width (packed (finished_told a)) ≡ finished_told a
+finished-back = by-back delay_width (λ u. nothing) refl (λ u. refl)
 
-pub admission-back : (a : Admission) → restored ticket_width (packed (admission_told a)) ≡ admission_told a
-admission-back (AdmissionIs.Granted t) = refl
-admission-back (AdmissionIs.Shed d) = refl
-admission-back (AdmissionIs.Refused r) = refused-back (λ n. restored ticket_width (packed (tell n []))) r refl refl refl refl refl refl refl refl refl
+pub tried-back : (a : Result Tried NotAdmitted) → restored ticket_width (packed (tried_told a)) ≡ tried_told a
+tried-back = shed-back ticket_width inner_told refl (λ v. refl) back
+  where
+    back : (a : Tried) → restored ticket_width (packed (inner_told a)) ≡ inner_told a
+    back (TriedIs.Granted t) = refl
+    back TriedIs.Retry = refl
+    back (TriedIs.Impossible cost capacity) = refl
 
-pub finished-back : (a : Finished) → restored delay_width (packed (finished_told a)) ≡ finished_told a
-finished-back FinishedIs.Done = refl
-finished-back (FinishedIs.Refused r) = refused-back (λ n. restored delay_width (packed (tell n []))) r refl refl refl refl refl refl refl refl refl
+pub standing-back : (a : Result (Unit {0}) NotAdmitted) → restored delay_width (packed (standing_told a)) ≡ standing_told a
+standing-back = shed-back delay_width (λ u. nothing) refl (λ v. refl) (λ u. refl)
 
-pub tried-back : (a : Tried) → restored ticket_width (packed (tried_told a)) ≡ tried_told a
-tried-back (TriedIs.Granted t) = refl
-tried-back (TriedIs.Shed d) = refl
-tried-back TriedIs.Retry = refl
-tried-back (TriedIs.Impossible cost capacity) = refl
-tried-back (TriedIs.Refused r) = refused-back (λ n. restored ticket_width (packed (tell n []))) r refl refl refl refl refl refl refl refl refl
+pub counted_back : (a : Result ℕ Refusal) → restored count_width (packed (counted_told a)) ≡ counted_told a
+counted_back = by-back count_width (λ n. tell 0 (n ∷ [])) refl (λ n. refl)
 
-pub standing-back : (a : Standing) → restored delay_width (packed (standing_told a)) ≡ standing_told a
-standing-back StandingIs.Admits = refl
-standing-back (StandingIs.Shed d) = refl
-standing-back (StandingIs.Refused r) = refused-back (λ n. restored delay_width (packed (tell n []))) r refl refl refl refl refl refl refl refl refl
+pub notice-back : (a : Result ℕ Refusal) → restored count_width (packed (notice_told a)) ≡ notice_told a
+notice-back = counted_back
 
-pub notice-back : (a : Notice) → restored count_width (packed (notice_told a)) ≡ notice_told a
-notice-back (NoticeIs.Refund cost) = refl
-notice-back (NoticeIs.Refused r) = refused-back (λ n. restored count_width (packed (tell n []))) r refl refl refl refl refl refl refl refl refl
+pub saving-back : (a : Result ℕ Refusal) → restored count_width (packed (saving_told a)) ≡ saving_told a
+saving-back = counted_back
 
-pub decided-back : (a : Decided) → restored (kind_width 2) (packed (decided_told a)) ≡ decided_told a
-decided-back (DecidedIs.Is DecisionIs.Acquired) = refl
-decided-back (DecidedIs.Is (DecisionIs.Retry d)) = refl
-decided-back (DecidedIs.Is DecisionIs.Impossible) = refl
-decided-back (DecidedIs.Refused r) = refused-back (λ n. restored (kind_width 2) (packed (tell n []))) r refl refl refl refl refl refl refl refl refl
+pub judged-back : (a : Result ℕ Refusal) → restored part_width (packed (judged_told a)) ≡ judged_told a
+judged-back = by-back part_width (λ used. tell 0 (8 ∷ used ∷ [])) refl (λ used. refl)
 
-pub reserved-back : (a : Reserved) → restored (kind_width 1) (packed (reserved_told a)) ≡ reserved_told a
-reserved-back (ReservedIs.Is (ReservationIs.Wait d)) = refl
-reserved-back (ReservedIs.Is ReservationIs.Nothing) = refl
-reserved-back (ReservedIs.Refused r) = refused-back (λ n. restored (kind_width 1) (packed (tell n []))) r refl refl refl refl refl refl refl refl refl
+pub decided-back : (a : Result Decision Refusal) → restored (kind_width 2) (packed (decided_told a)) ≡ decided_told a
+decided-back = by-back (kind_width 2) (λ d. tell 0 (decision_values d)) refl back
+  where
+    back : (d : Decision) → restored (kind_width 2) (packed (tell 0 (decision_values d))) ≡ tell 0 (decision_values d)
+    back DecisionIs.Acquired = refl
+    back (DecisionIs.Retry d) = refl
+    back DecisionIs.Impossible = refl
 
-pub counted_back : (a : Counted) → restored count_width (packed (counted_told a)) ≡ counted_told a
-counted_back (CountedIs.Count n) = refl
-counted_back (CountedIs.Refused r) = refused-back (λ n. restored count_width (packed (tell n []))) r refl refl refl refl refl refl refl refl refl
-
-pub saving-back : (a : Saving) → restored count_width (packed (saving_told a)) ≡ saving_told a
-saving-back (SavingIs.Saved used) = refl
-saving-back (SavingIs.Refused r) = refused-back (λ n. restored count_width (packed (tell n []))) r refl refl refl refl refl refl refl refl refl
-
-pub judged-back : (a : CheckedAs) → restored part_width (packed (judged_told a)) ≡ judged_told a
-judged-back (CheckedIs.Passes used) = refl
-judged-back (CheckedIs.Refused r) = refused-back (λ n. restored part_width (packed (tell n []))) r refl refl refl refl refl refl refl refl refl
+pub reserved-back : (a : Result (Option Delay) Refusal) → restored (kind_width 1) (packed (reserved_told a)) ≡ reserved_told a
+reserved-back = by-back (kind_width 1) (λ w. tell 0 (reservation_values w)) refl back
+  where
+    back : (w : Option Delay) → restored (kind_width 1) (packed (tell 0 (reservation_values w))) ≡ tell 0 (reservation_values w)
+    back (Some d) = refl
+    back None = refl

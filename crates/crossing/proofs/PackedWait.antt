@@ -1,27 +1,21 @@
 -- Nothing is lost where a wait's answer is packed: what was told, and the turns taken, are read back from the six numbers. Assumes nothing.
-use Prim.Native.Nat.{ℕ}
-use mathlib.Core.Path.{◌≡◌, refl, sym, ap, ◌∙◌}
-use mathlib.Core.List.{[], ◌∷◌}
-use lib.Dec.{eqb}
-use lib.ListN.{take}
-use Rattle.std.proofs.Common.{if◌then◌else◌}
-use Rattle.error.specs.Told.{Told as Answer, tell}
+use Rattle.std.proofs.Common.{◌≡◌, ℕ, [], ◌∷◌, refl, sym, ap, ◌∙◌, eqb, take, if◌then◌else◌, Result, Ok, Err}
+use Rattle.error.specs.Told.{Told as Answer, tell, told_by}
+use Rattle.error.specs.declared.Refusal.{Refusal}
+use Rattle.breaker.specs.declared.NotAdmitted.{NotAdmitted}
+use Rattle.breaker.specs.declared.NotAdmitted.TheVariants as NotAdmittedIs
 use Rattle.wait.specs.declared.Act.TheVariants.{Sleep, SleepUnlessResumed, Yield, LookAgain}
-use Rattle.wait.specs.declared.Dropped.{Dropped}
-use Rattle.wait.specs.declared.Dropped.TheVariants as DroppedIs
 use Rattle.wait.specs.Answers.{dropped_told}
-use Rattle.waiting.specs.declared.Begun.{Begun}
-use Rattle.waiting.specs.declared.Begun.TheVariants as BegunIs
 use Rattle.waiting.specs.declared.Completed.{Completed}
 use Rattle.waiting.specs.declared.Completed.TheVariants as CompletedIs
 use Rattle.waiting.specs.declared.Awaited.{Awaited}
 use Rattle.waiting.specs.declared.Awaited.TheVariants as AwaitedIs
 use Rattle.waiting.specs.declared.Course.{Course}
 use Rattle.waiting.specs.declared.Course.TheVariants as CourseIs
-use Rattle.waiting.specs.Answers.{begun_told, completed_told, awaited_told, course_told}
+use Rattle.waiting.specs.Answers.{begun_told, completed_told, awaited_is, awaited_told, course_is, course_told}
 use Rattle.crossing.specs.declared.Waited.{Waited}
 use Rattle.crossing.specs.Waits.{packed_wait}
-use Rattle.crossing.proofs.Packed.{refused-back}
+use Rattle.crossing.proofs.Packed.{Bare, refused-back}
 
 -- an answer, read back: `width` says how many values it has, by its number and its first value
 abbrev pub restored : (ℕ → ℕ → ℕ) → Waited → Answer
@@ -57,10 +51,16 @@ dropped_width n v = if eqb n 0 then 1 else 0
 
 -- ---- the answers of a wait, whatever was taken
 
-pub begun-back : (a : Begun) (n : ℕ) → restored begun_width (packed_wait (begun_told a) n) ≡ begun_told a
-begun-back BegunIs.Waits n = refl
-begun-back (BegunIs.Shed d) n = refl
-begun-back (BegunIs.Refused r) n = refused-back (λ k. restored begun_width (packed_wait (tell k []) n)) r refl refl refl refl refl refl refl refl refl
+-- an answer is read back where what it tells is
+by-back : (width : ℕ → ℕ → ℕ) {A : Type 0} (answer : A → Answer) (n : ℕ) → Bare width → ((a : A) → restored width (packed_wait (answer a) n) ≡ answer a)
+    → (x : Result A Refusal) → restored width (packed_wait (told_by answer x) n) ≡ told_by answer x
+by-back width answer n bare f (Ok a) = f a
+by-back width answer n bare f (Err r) = refused-back width bare r (0 ∷ 0 ∷ 0 ∷ 0 ∷ [])
+
+pub begun-back : (a : Result (Unit {0}) NotAdmitted) (n : ℕ) → restored begun_width (packed_wait (begun_told a) n) ≡ begun_told a
+begun-back (Ok u) n = refl
+begun-back (Err (NotAdmittedIs.Shed d)) n = refl
+begun-back (Err (NotAdmittedIs.Refused r)) n = refused-back begun_width refl r (0 ∷ 0 ∷ 0 ∷ 0 ∷ [])
 
 pub completed-back : (e : Completed) (n : ℕ) → restored wait_width (packed_wait (completed_told e) n) ≡ completed_told e
 completed-back (CompletedIs.Admitted t) n = refl
@@ -68,23 +68,26 @@ completed-back (CompletedIs.Shed d refund) n = refl
 completed-back (CompletedIs.Impossible cost capacity) n = refl
 completed-back (CompletedIs.Deadline back) n = refl
 
-pub awaited-back : (a : Awaited) (n : ℕ) → restored wait_width (packed_wait (awaited_told a) n) ≡ awaited_told a
-awaited-back (AwaitedIs.Next (Sleep nanos)) n = refl
-awaited-back (AwaitedIs.Next (SleepUnlessResumed nanos epoch)) n = refl
-awaited-back (AwaitedIs.Next Yield) n = refl
-awaited-back (AwaitedIs.Next LookAgain) n = refl
-awaited-back (AwaitedIs.Ends e) n = completed-back e n
-awaited-back (AwaitedIs.Refused r) n = refused-back (λ k. restored wait_width (packed_wait (tell k []) n)) r refl refl refl refl refl refl refl refl refl
+pub awaited-back : (a : Result Awaited Refusal) (n : ℕ) → restored wait_width (packed_wait (awaited_told a) n) ≡ awaited_told a
+awaited-back a n = by-back wait_width awaited_is n refl back a
+  where
+    back : (x : Awaited) → restored wait_width (packed_wait (awaited_is x) n) ≡ awaited_is x
+    back (AwaitedIs.Next (Sleep nanos)) = refl
+    back (AwaitedIs.Next (SleepUnlessResumed nanos epoch)) = refl
+    back (AwaitedIs.Next Yield) = refl
+    back (AwaitedIs.Next LookAgain) = refl
+    back (AwaitedIs.Ends e) = completed-back e n
 
-pub course-back : (a : Course) (n : ℕ) → restored wait_width (packed_wait (course_told a) n) ≡ course_told a
-course-back (CourseIs.Ends e) n = completed-back e n
-course-back CourseIs.Unfinished n = refl
-course-back (CourseIs.Refused r) n = refused-back (λ k. restored wait_width (packed_wait (tell k []) n)) r refl refl refl refl refl refl refl refl refl
+pub course-back : (a : Result Course Refusal) (n : ℕ) → restored wait_width (packed_wait (course_told a) n) ≡ course_told a
+course-back a n = by-back wait_width course_is n refl back a
+  where
+    back : (x : Course) → restored wait_width (packed_wait (course_is x) n) ≡ course_is x
+    back (CourseIs.Ends e) = completed-back e n
+    back CourseIs.Unfinished = refl
 
 -- a run's course and its count, both: what two runs are told is equal only if these are
-pub run-known : (a b : Course) (m n : ℕ) → packed_wait (course_told a) m ≡ packed_wait (course_told b) n → (course_told a ≡ course_told b) × (m ≡ n)
+pub run-known : (a b : Result Course Refusal) (m n : ℕ) → packed_wait (course_told a) m ≡ packed_wait (course_told b) n → (course_told a ≡ course_told b) × (m ≡ n)
 run-known a b m n = known_by wait_width (course_told a) (course_told b) m n (course-back a m) (course-back b n)
 
-pub dropped-back : (a : Dropped) (n : ℕ) → restored dropped_width (packed_wait (dropped_told a) n) ≡ dropped_told a
-dropped-back (DroppedIs.GiveBack back) n = refl
-dropped-back (DroppedIs.Refused r) n = refused-back (λ k. restored dropped_width (packed_wait (tell k []) n)) r refl refl refl refl refl refl refl refl refl
+pub dropped-back : (a : Result ℕ Refusal) (n : ℕ) → restored dropped_width (packed_wait (dropped_told a) n) ≡ dropped_told a
+dropped-back a n = by-back dropped_width (λ back. tell 0 (back ∷ [])) n refl (λ back. refl) a

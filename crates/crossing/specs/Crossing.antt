@@ -1,5 +1,5 @@
 -- What crosses to C: an answer as plain numbers, and what the plain numbers that come in mean. Definitions only.
-use Rattle.std.specs.Prelude.{ℕ, Bool, not, ◌&&◌, List, leb, eqb, length, get_or, if◌then◌else◌}
+use Rattle.std.specs.Prelude.{ℕ, Bool, not, ◌&&◌, List, leb, eqb, length, get_or, if◌then◌else◌, Option, Some, None}
 use Rattle.error.specs.Choice.{flag_of}
 use Rattle.error.specs.Told.{Told as Answer, refused}
 use Rattle.error.specs.declared.Refusal.TheVariants.{Storage, Unsound, Turn}
@@ -10,8 +10,7 @@ use Rattle.breaker.specs.declared.Ticket.{Ticket}
 use Rattle.breaker.specs.declared.Breaker.{Breaker}
 use Rattle.breaker.specs.declared.Decision.{Decision}
 use Rattle.breaker.specs.declared.Decision.TheVariants.{Acquired, Retry, Impossible}
-use Rattle.breaker.specs.declared.Reservation.{Reservation}
-use Rattle.breaker.specs.declared.Reservation.TheVariants.{Wait, Nothing}
+use Rattle.breaker.specs.declared.Delay.{Delay}
 use Rattle.breaker.specs.Record.{Settings, State}
 use Rattle.breaker.specs.Answers.{delay_of}
 use Rattle.breaker.specs.Rules.{Outcome}
@@ -98,8 +97,8 @@ decision_by kind ms =
     else Impossible
 
 -- 1 a wait of so many milliseconds, 0 none
-abbrev pub reservation_by : ℕ → ℕ → Reservation
-reservation_by kind ms = if eqb kind 1 then Wait (delay_of ms) else Nothing
+abbrev pub reservation_by : ℕ → ℕ → Option Delay
+reservation_by kind ms = if eqb kind 1 then Some (delay_of ms) else None
 
 -- a call by a reply: "Tested in the order 3, 4, 11"; refused it leaves all as it was
 unfoldable pub on_reply : Bool → (Settings → State → Outcome) → Breaker → List ℕ → After

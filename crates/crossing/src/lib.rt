@@ -5,24 +5,20 @@ mod codes;
 mod reply;
 mod settings;
 mod tell;
-mod tell_wait;
 mod ticket;
+mod waits;
 
 use breaker::Breaker;
-pub use reply::{decision_by, is_reply, is_reservable, reservation_by, tell_unknown};
-pub use settings::{builder_by, is_policy, tell_unknown_policy};
-pub use tell::{
-    tell_admission, tell_counted, tell_decided, tell_finished, tell_judged, tell_notice,
-    tell_reserved, tell_saving, tell_standing, tell_tried,
-};
-pub use tell_wait::{tell_awaited, tell_begun, tell_course, tell_dropped};
-pub use ticket::{after_start, after_turn, pending_by, ticket_by};
+pub use reply::{decision_by, reservation_by, tell_unknown};
+pub use settings::{builder_by, tell_unknown_policy};
+pub use tell::{Tell, tell_judged, tell_wait};
+pub use ticket::{after_turn, pending_by, plain_pending, ticket_by};
 use wait::Wait;
 
 // What a caller is told: the number of document 01's table, 0 where the call was not refused,
 // and the values of breaker's specs/Answers in their order, 0 where there is none. A probe flag is a value of 0 or 1.
 #[repr(C)]
-#[derive(Clone, Copy)]
+#[derive(Clone, Copy, Debug, PartialEq, Eq)]
 pub struct Told {
     pub number: u32,
     pub v1: u64,
@@ -32,7 +28,7 @@ pub struct Told {
 
 // What a caller of a wait is told: as above, with the values of wait's and waiting's specs/Answers, and the turns that a run took.
 #[repr(C)]
-#[derive(Clone, Copy)]
+#[derive(Clone, Copy, Debug, PartialEq, Eq)]
 pub struct Waited {
     pub number: u32,
     pub v1: u64,

@@ -1,58 +1,41 @@
 // The inner limiter's replies that come in, a kind and milliseconds, as the enums they stand for.
-ghost use Rattle.std.specs.Prelude.{◌≡◌};
+ghost use Rattle.std.specs.Prelude.{◌≡◌, if◌then◌else◌};
 ghost use Rattle.error.specs.Told.{refused};
 ghost use Rattle.error.specs.declared.Refusal.TheVariants.{Turn};
 ghost use Rattle.breaker.specs.Calls.{guarded};
 ghost use Rattle.crossing.specs.Crossing.{packed, is_reply, decision_by, reservable, reservation_by};
 
 use crate::Told;
-use crate::codes::{REPLY_ACQUIRED, REPLY_IMPOSSIBLE, REPLY_RETRY, RESERVED_WAIT};
-use crate::tell::tell_refusal;
-use breaker::{Breaker, Decision, Reservation, Tested, delayed, test};
+use crate::codes::{
+    REPLY_ACQUIRED, REPLY_IMPOSSIBLE, REPLY_RETRY, RESERVED_NOTHING, RESERVED_WAIT,
+};
+use crate::tell::Tell;
+use breaker::{Breaker, Decision, Delay, delayed, test};
 use error::Refusal;
 
-// Whether an inner limiter's reply has this kind.
-// Ruled out: a kind of 0 taken; a kind of 4 taken.
-pub fn is_reply(kind: u8) -> bool
-    ensures { result ≡ is_reply kind }
+// What an inner limiter replied: a kind of 1 to 3, and the milliseconds of a retry; nothing where the kind is another.
+// Ruled out: a retry without its milliseconds; a kind of 0 or 4 taken.
+pub fn decision_by(kind: u8, ms: u64) -> Option<Decision>
+    ensures { result ≡ (if is_reply kind then Some (decision_by kind ms) else None) }
 {
-    if kind < REPLY_ACQUIRED {
-        return false;
+    match kind {
+        REPLY_ACQUIRED => Some(Decision::Acquired),
+        REPLY_RETRY => Some(Decision::Retry(delayed(ms))),
+        REPLY_IMPOSSIBLE => Some(Decision::Impossible),
+        _ => None,
     }
-    kind <= REPLY_IMPOSSIBLE
 }
 
-// What an inner limiter replied: a kind of 1 to 3, and the milliseconds of a retry.
-// Ruled out: a retry without its milliseconds; kinds 2 and 3 swapped.
-pub fn decision_by(kind: u8, ms: u64) -> Decision
-    ensures { result ≡ decision_by kind ms }
+// What an inner limiter replied to a reservation: 1 a wait of so many milliseconds, 0 none; nothing where the kind is another.
+// Ruled out: a wait without its milliseconds; a kind of 2 taken.
+pub fn reservation_by(kind: u8, ms: u64) -> Option<Option<Delay>>
+    ensures { result ≡ (if reservable kind then Some (reservation_by kind ms) else None) }
 {
-    if kind == REPLY_ACQUIRED {
-        return Decision::Acquired;
+    match kind {
+        RESERVED_WAIT => Some(Some(delayed(ms))),
+        RESERVED_NOTHING => Some(None),
+        _ => None,
     }
-    if kind == REPLY_RETRY {
-        return Decision::Retry(delayed(ms));
-    }
-    Decision::Impossible
-}
-
-// Whether a reservation has this kind.
-// Ruled out: a kind of 2 taken; a kind of 0 refused.
-pub fn is_reservable(kind: u8) -> bool
-    ensures { result ≡ reservable kind }
-{
-    kind <= RESERVED_WAIT
-}
-
-// What an inner limiter replied to a reservation: 1 a wait of so many milliseconds, 0 none.
-// Ruled out: a wait without its milliseconds; 0 taken for a wait.
-pub fn reservation_by(kind: u8, ms: u64) -> Reservation
-    ensures { result ≡ reservation_by kind ms }
-{
-    if kind == RESERVED_WAIT {
-        return Reservation::Wait(delayed(ms));
-    }
-    Reservation::Nothing
 }
 
 // What a call with an unknown reply is told: 3, 4, then 11.
@@ -61,7 +44,7 @@ pub fn tell_unknown(breaker: Breaker, list: &[u64]) -> Told
     ensures { result ≡ packed (guarded refused (refused Turn) breaker list.now) }
 {
     match test(breaker, list) {
-        Tested::Refused(r) => tell_refusal(r),
-        Tested::Sound => tell_refusal(Refusal::Turn),
+        Ok(()) => Refusal::Turn.tell(),
+        Err(refusal) => refusal.tell(),
     }
 }

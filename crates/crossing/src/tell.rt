@@ -1,255 +1,219 @@
-// Each answer as plain numbers: document 01's number, and its values with zeros for those it has not.
-ghost use Rattle.std.specs.Prelude.{◌≡◌};
-ghost use Rattle.error.specs.Told.{refused};
+// An answer as plain numbers: the number of the table, and its values with zeros for those it has not.
+ghost use Rattle.std.specs.Prelude.{◌≡◌, ℕ, [], ◌∷◌, get_or, refl, Some, None, Ok, Err};
+ghost use Rattle.error.specs.Told.{Told as Answer, nothing, refused, tell, told_or};
 ghost use Rattle.blocks.specs.Block.{judged_told};
-ghost use Rattle.breaker.specs.Answers.{admission_told, finished_told, tried_told, standing_told, notice_told, decided_told, reserved_told, counted_told};
-ghost use Rattle.checkpoints.specs.Calls.{saving_told};
+ghost use Rattle.breaker.specs.Answers.{decision_values, granted_told, inner_told, not_admitted, reservation_values, shed_told};
 ghost use Rattle.crossing.specs.Crossing.{packed};
+ghost use Rattle.crossing.specs.Waits.{packed_wait};
 
-use crate::Told;
 use crate::codes::{
     REPLY_ACQUIRED, REPLY_IMPOSSIBLE, REPLY_RETRY, RESERVED_NOTHING, RESERVED_WAIT,
     TOLD_IMPOSSIBLE, TOLD_RETRY, TOLD_SHED,
 };
-use crate::ticket::flag;
-use blocks::{BODY_AT, CheckedAs};
-use breaker::{
-    Admission, Counted, Decided, Decision, Finished, Notice, Reservation, Reserved, Standing, Tried,
-};
-use checkpoints::Saving;
+use crate::{Told, Waited};
+use blocks::BODY_AT;
+use breaker::{Decision, Delay, NotAdmitted, Ticket, Tried};
 use error::Refusal;
 
-pub(crate) fn tell_refusal(refusal: Refusal) -> Told
-    ensures { result ≡ packed (refused refusal) }
+// An answer that is told to C.
+pub trait Tell {
+    ghost told: { Self → Answer };
+
+    fn tell(self) -> Told
+        ensures { result ≡ packed (told self) };
+
+    // No answer has more than three values.
+    ghost three: { (x : Self) → get_or (told x).values 3 0 ≡ 0 };
+}
+
+// What a call of a wait is told, after so many turns of a run; 0 where it is no run.
+// Ruled out: turns that are told as a value; a value that is told as the turns.
+pub fn tell_wait<A: Tell>(answer: A, taken: u64) -> Waited
+    ensures { result ≡ packed_wait (A.told answer) taken }
 {
-    Told {
-        number: error::number(refusal),
-        v1: 0,
-        v2: 0,
-        v3: 0,
+    let told = answer.tell();
+    Waited {
+        number: told.number,
+        v1: told.v1,
+        v2: told.v2,
+        v3: told.v3,
+        v4: 0,
+        taken,
     }
 }
 
-// What came of a call that tells no more than a refusal.
-// Ruled out: number 5 told as 0; a refusal with values.
-pub fn tell_finished(answer: Finished) -> Told
-    ensures { result ≡ packed (finished_told answer) }
+// A number and three values.
+pub(crate) fn told(number: u32, values: [u64; 3]) -> Told
+    ensures { result ≡ packed (tell number values) }
 {
-    match answer {
-        Finished::Done => Told {
-            number: 0,
-            v1: 0,
-            v2: 0,
-            v3: 0,
-        },
-        Finished::Refused(r) => tell_refusal(r),
-    }
+    let [v1, v2, v3] = values;
+    Told { number, v1, v2, v3 }
 }
 
-// An admission: 0 with generation and probe, or 6 with the delay.
-// Ruled out: a shed told without its delay; a probe told with a flag of 0.
-pub fn tell_admission(answer: Admission) -> Told
-    ensures { result ≡ packed (admission_told answer) }
+// Told with number 0.
+fn accepted(values: [u64; 3]) -> Told
+    ensures { result ≡ packed (tell 0 values) }
 {
-    match answer {
-        Admission::Granted(t) => Told {
-            number: 0,
-            v1: t.generation,
-            v2: flag(t.probe) as u64,
-            v3: 0,
-        },
-        Admission::Shed(d) => Told {
-            number: TOLD_SHED,
-            v1: d.ms,
-            v2: 0,
-            v3: 0,
-        },
-        Admission::Refused(r) => tell_refusal(r),
-    }
+    told(0, values)
 }
 
-// An admission with the inner limiter's reply: as above, 7, or 8 with cost and capacity.
-// Ruled out: an inner retry told 6; cost and capacity swapped.
-pub fn tell_tried(answer: Tried) -> Told
-    ensures { result ≡ packed (tried_told answer) }
-{
-    match answer {
-        Tried::Granted(t) => Told {
-            number: 0,
-            v1: t.generation,
-            v2: flag(t.probe) as u64,
-            v3: 0,
-        },
-        Tried::Shed(d) => Told {
-            number: TOLD_SHED,
-            v1: d.ms,
-            v2: 0,
-            v3: 0,
-        },
-        Tried::Retry => Told {
-            number: TOLD_RETRY,
-            v1: 0,
-            v2: 0,
-            v3: 0,
-        },
-        Tried::Impossible { cost, capacity } => Told {
-            number: TOLD_IMPOSSIBLE,
-            v1: cost as u64,
-            v2: capacity as u64,
-            v3: 0,
-        },
-        Tried::Refused(r) => tell_refusal(r),
+impl Tell for Refusal {
+    ghost told = { refused };
+
+    fn tell(self) -> Told {
+        told(self.number(), [0, 0, 0])
     }
+
+    ghost three = { λ _. refl };
 }
 
-// Whether a waiter may still go: 0, or 6 with the delay.
-// Ruled out: a shed told 0; a delay told in v2.
-pub fn tell_standing(answer: Standing) -> Told
-    ensures { result ≡ packed (standing_told answer) }
-{
-    match answer {
-        Standing::Admits => Told {
-            number: 0,
-            v1: 0,
-            v2: 0,
-            v3: 0,
-        },
-        Standing::Shed(d) => Told {
-            number: TOLD_SHED,
-            v1: d.ms,
-            v2: 0,
-            v3: 0,
-        },
-        Standing::Refused(r) => tell_refusal(r),
+impl Tell for () {
+    ghost told = { λ _. nothing };
+
+    fn tell(self) -> Told {
+        accepted([0, 0, 0])
     }
+
+    ghost three = { λ _. refl };
 }
 
-// A notice to refund so much to the inner limiter.
-// Ruled out: every cost told as 1; a refusal told 0.
-pub fn tell_notice(answer: Notice) -> Told
-    ensures { result ≡ packed (notice_told answer) }
-{
-    match answer {
-        Notice::Refund(cost) => Told {
-            number: 0,
-            v1: cost as u64,
-            v2: 0,
-            v3: 0,
-        },
-        Notice::Refused(r) => tell_refusal(r),
+// A count, a refund or what is given back.
+impl Tell for u64 {
+    ghost told = { λ n. tell 0 (n ∷ []) };
+
+    fn tell(self) -> Told {
+        accepted([self, 0, 0])
     }
+
+    ghost three = { λ _. refl };
 }
 
-fn tell_decision(d: Decision) -> Told
-    ensures { result ≡ packed (decided_told (Decided.Is d)) }
-{
-    match d {
-        Decision::Acquired => Told {
-            number: 0,
-            v1: REPLY_ACQUIRED as u64,
-            v2: 0,
-            v3: 0,
-        },
-        Decision::Retry(delay) => Told {
-            number: 0,
-            v1: REPLY_RETRY as u64,
-            v2: delay.ms,
-            v3: 0,
-        },
-        Decision::Impossible => Told {
-            number: 0,
-            v1: REPLY_IMPOSSIBLE as u64,
-            v2: 0,
-            v3: 0,
-        },
+impl Tell for u32 {
+    ghost told = { λ n. tell 0 (n ∷ []) };
+
+    fn tell(self) -> Told {
+        accepted([u64::from(self), 0, 0])
     }
+
+    ghost three = { λ _. refl };
 }
 
-// The trait side's decision: its kind, and a retry's delay.
-// Ruled out: a retry told without its delay; a shed told 6.
-pub fn tell_decided(answer: Decided) -> Told
-    ensures { result ≡ packed (decided_told answer) }
-{
-    match answer {
-        Decided::Is(d) => tell_decision(d),
-        Decided::Refused(r) => tell_refusal(r),
+// A used length.
+impl Tell for usize {
+    ghost told = { λ n. tell 0 (n ∷ []) };
+
+    fn tell(self) -> Told {
+        accepted([self as u64, 0, 0])
     }
+
+    ghost three = { λ _. refl };
 }
 
-fn tell_reservation(w: Reservation) -> Told
-    ensures { result ≡ packed (reserved_told (Reserved.Is w)) }
-{
-    match w {
-        Reservation::Wait(delay) => Told {
-            number: 0,
-            v1: RESERVED_WAIT as u64,
-            v2: delay.ms,
-            v3: 0,
-        },
-        Reservation::Nothing => Told {
-            number: 0,
-            v1: RESERVED_NOTHING as u64,
-            v2: 0,
-            v3: 0,
-        },
+impl Tell for Ticket {
+    ghost told = { granted_told };
+
+    fn tell(self) -> Told {
+        accepted([self.generation, u64::from(self.probe), 0])
     }
+
+    ghost three = { λ _. refl };
 }
 
-// The trait side's reservation: 1 and the wait, or 0.
-// Ruled out: a wait told without its milliseconds; none told as a wait of 0.
-pub fn tell_reserved(answer: Reserved) -> Told
-    ensures { result ≡ packed (reserved_told answer) }
-{
-    match answer {
-        Reserved::Is(w) => tell_reservation(w),
-        Reserved::Refused(r) => tell_refusal(r),
+// A shed.
+impl Tell for Delay {
+    ghost told = { shed_told };
+
+    fn tell(self) -> Told {
+        told(TOLD_SHED, [self.ms, 0, 0])
     }
+
+    ghost three = { λ _. refl };
 }
 
-// A count.
-// Ruled out: a count told in v2; a refusal told as a count of 0.
-pub fn tell_counted(answer: Counted) -> Told
-    ensures { result ≡ packed (counted_told answer) }
-{
-    match answer {
-        Counted::Count(n) => Told {
-            number: 0,
-            v1: n,
-            v2: 0,
-            v3: 0,
-        },
-        Counted::Refused(r) => tell_refusal(r),
+impl Tell for NotAdmitted {
+    ghost use Rattle.breaker.specs.declared.NotAdmitted.TheVariants.{Shed, Refused};
+
+    ghost told = { not_admitted };
+
+    fn tell(self) -> Told {
+        match self {
+            NotAdmitted::Shed(delay) => delay.tell(),
+            NotAdmitted::Refused(refusal) => refusal.tell(),
+        }
     }
+
+    ghost three = { elim [ Shed d ↦ refl | Refused r ↦ refl ] };
 }
 
-// A save: 0 with the used length after it.
-// Ruled out: the used length before it; a refusal told with a length.
-pub fn tell_saving(answer: Saving) -> Told
-    ensures { result ≡ packed (saving_told answer) }
-{
-    match answer {
-        Saving::Saved(used) => Told {
-            number: 0,
-            v1: used as u64,
-            v2: 0,
-            v3: 0,
-        },
-        Saving::Refused(r) => tell_refusal(r),
+impl Tell for Tried {
+    ghost use Rattle.breaker.specs.declared.Tried.TheVariants.{Granted, Retry, Impossible};
+
+    ghost told = { inner_told };
+
+    fn tell(self) -> Told {
+        match self {
+            Tried::Granted(ticket) => ticket.tell(),
+            Tried::Retry => told(TOLD_RETRY, [0, 0, 0]),
+            Tried::Impossible { cost, capacity } => {
+                told(TOLD_IMPOSSIBLE, [u64::from(cost), u64::from(capacity), 0])
+            }
+        }
     }
+
+    ghost three = { elim [ Granted t ↦ refl | Retry ↦ refl | Impossible cost capacity ↦ refl ] };
+}
+
+// The kind of a decision, and a retry's delay.
+impl Tell for Decision {
+    ghost use Rattle.breaker.specs.declared.Decision.TheVariants.{Acquired, Retry, Impossible};
+
+    ghost told = { λ d. tell 0 (decision_values d) };
+
+    fn tell(self) -> Told {
+        match self {
+            Decision::Acquired => accepted([u64::from(REPLY_ACQUIRED), 0, 0]),
+            Decision::Retry(delay) => accepted([u64::from(REPLY_RETRY), delay.ms, 0]),
+            Decision::Impossible => accepted([u64::from(REPLY_IMPOSSIBLE), 0, 0]),
+        }
+    }
+
+    ghost three = { elim [ Acquired ↦ refl | Retry d ↦ refl | Impossible ↦ refl ] };
+}
+
+// A reservation: 1 and the wait, or 0.
+impl Tell for Option<Delay> {
+    ghost told = { λ w. tell 0 (reservation_values w) };
+
+    fn tell(self) -> Told {
+        match self {
+            Some(delay) => accepted([u64::from(RESERVED_WAIT), delay.ms, 0]),
+            None => accepted([u64::from(RESERVED_NOTHING), 0, 0]),
+        }
+    }
+
+    ghost three = { elim [ Some d ↦ refl | None ↦ refl ] };
+}
+
+impl<A: Tell, E: Tell> Tell for Result<A, E> {
+    ghost told = { told_or A.told E.told };
+
+    fn tell(self) -> Told {
+        match self {
+            Ok(answer) => answer.tell(),
+            Err(instead) => instead.tell(),
+        }
+    }
+
+    ghost three = { elim [ Ok a ↦ A.three a | Err e ↦ E.three e ] };
 }
 
 // The check of a block: 0 with where its used body begins and how long it is.
 // Ruled out: place and length swapped; 14 told as 13.
-pub fn tell_judged(answer: CheckedAs) -> Told
+pub fn tell_judged(answer: Result<usize, Refusal>) -> Told
     ensures { result ≡ packed (judged_told answer) }
 {
     match answer {
-        CheckedAs::Passes(used) => Told {
-            number: 0,
-            v1: BODY_AT as u64,
-            v2: used as u64,
-            v3: 0,
-        },
-        CheckedAs::Refused(r) => tell_refusal(r),
+        Ok(used) => accepted([BODY_AT as u64, used as u64, 0]),
+        Err(refusal) => refusal.tell(),
     }
 }

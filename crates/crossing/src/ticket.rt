@@ -1,22 +1,11 @@
 // A ticket, and a wait with its ticket, as plain numbers: the probe flag is a byte.
 ghost use Rattle.std.specs.Prelude.{◌≡◌};
-ghost use Rattle.error.specs.Choice.{bit};
 ghost use Rattle.crossing.specs.Crossing.{ticket_by};
-ghost use Rattle.crossing.specs.Waits.{pending_by, plain_ticket, plain_pending, after_start, after_turn};
+ghost use Rattle.crossing.specs.Waits.{pending_by, plain_ticket, plain_pending, after_turn};
 
 use crate::{PlainPending, PlainTicket};
 use breaker::Ticket;
 use waiting::Pending;
-
-// A flag as a number.
-pub(crate) fn flag(x: bool) -> u8
-    ensures { result ≡ bit x }
-{
-    if x {
-        return 1;
-    }
-    0
-}
 
 // What a ticket that comes in means.
 // Ruled out: a probe byte of 2 read as false; every ticket read as a probe.
@@ -44,27 +33,18 @@ fn plain_ticket(ticket: Ticket) -> PlainTicket
 {
     PlainTicket {
         generation: ticket.generation,
-        probe: flag(ticket.probe),
+        probe: u8::from(ticket.probe),
     }
 }
 
-fn plain_pending(pending: Pending) -> PlainPending
+// A new wait with its ticket, as its caller holds it.
+// Ruled out: a probe told with a byte of 0; a wait that has ended.
+pub fn plain_pending(pending: Pending) -> PlainPending
     ensures { result ≡ plain_pending pending }
 {
     let wait = pending.wait;
     let ticket = plain_ticket(pending.ticket);
     PlainPending { wait, ticket }
-}
-
-// The pending wait that a caller holds after a start that was told this number.
-// Ruled out: a start that is shed writes the ticket; a new wait with the ticket handed in.
-pub fn after_start(told: u32, next: Pending, handed: PlainPending) -> PlainPending
-    ensures { result ≡ after_start told next handed }
-{
-    if told != 0 {
-        return handed;
-    }
-    plain_pending(next)
 }
 
 // The pending wait that a caller holds after a turn, a run or a drop.

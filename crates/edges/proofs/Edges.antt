@@ -1,12 +1,12 @@
 -- P1 to P12: the one proof of the list. Assumes nothing.
-use Prim.Native.Nat.{ℕ, ◌+◌, ◌-◌, ◌^◌, ◌≤◌}
+use Prim.Native.Nat.{ℕ, ◌+◌, ◌^◌, ◌≤◌}
 use native.Mathlib.Omega.{arith}
 use mathlib.Core.Path.{◌≡◌, refl}
 use mathlib.Core.Bool.{true}
+use Rattle.std.proofs.Common.{Ok}
+use Rattle.std.proofs.lemmas.Bool.Decides.{nat_tests}
 use lib.Count.{count_trailing_zeros}
-use lib.Dec.{leb}
 use lib.Ieee.{to_bits, is_nan, round, le, lt, eq, size, span, climb, units, odd, of_bits, of_fields}
-use borrow.Author.Tests.{le-leb}
 use Rattle.history.specs.Items.{sum_of, evicted}
 use Rattle.trip.specs.Settings.{clamped_ratio, built_of}
 use Rattle.trip.specs.Policy.{ratio_reached, tripped}
@@ -62,37 +62,18 @@ abbrev retried : ℕ → ℕ → Wait
 retried clock k = with_zeros k (new_wait clock true 0)
 
 module _ (clock : ℕ) (l : clock ≤ 2 ^ 62) where
-  in-time : leb clock (2 ^ 62) ≡ true
-  in-time = le-leb clock (2 ^ 62) l
-
-  at-deadline : leb (clock + 0) (2 ^ 63) ≡ true
-  at-deadline = le-leb (clock + 0) (2 ^ 63) (omega (arith, l))
-
-  nothing_left : clock + 0 - clock ≡ 0
-  nothing_left = omega arith
-
-  yield-1 : turned keep (retried clock 0) (retry_now clock) ≡ turned_as (Next Yield) (retried clock 1)
+  -- each of the first four yields
+  yields-on : (k : ℕ) → k ≤ 3 → turned keep (retried clock k) (retry_now clock) ≡ Ok (turned_as (Next Yield) (retried clock (k + 1)))
   unfolding turned turn_in_bounds wait_in_bounds moves retries retries_zero
-  yield-1 = rw (in-time, at-deadline, nothing_left) refl
+  yields-on k s = grind (arith, nat_tests)
 
-  yield-2 : turned keep (retried clock 1) (retry_now clock) ≡ turned_as (Next Yield) (retried clock 2)
+  deadline-5 : turned keep (retried clock 4) (retry_now clock) ≡ Ok (turned_as (Ends (Deadline 0)) ended_wait)
   unfolding turned turn_in_bounds wait_in_bounds moves retries retries_zero
-  yield-2 = rw (in-time, at-deadline, nothing_left) refl
-
-  yield-3 : turned keep (retried clock 2) (retry_now clock) ≡ turned_as (Next Yield) (retried clock 3)
-  unfolding turned turn_in_bounds wait_in_bounds moves retries retries_zero
-  yield-3 = rw (in-time, at-deadline, nothing_left) refl
-
-  yield-4 : turned keep (retried clock 3) (retry_now clock) ≡ turned_as (Next Yield) (retried clock 4)
-  unfolding turned turn_in_bounds wait_in_bounds moves retries retries_zero
-  yield-4 = rw (in-time, at-deadline, nothing_left) refl
-
-  deadline-5 : turned keep (retried clock 4) (retry_now clock) ≡ turned_as (Ends (Deadline 0)) ended_wait
-  unfolding turned turn_in_bounds wait_in_bounds moves retries retries_zero
-  deadline-5 = rw (in-time, at-deadline, nothing_left) refl
+  deadline-5 = grind (arith, nat_tests)
 
 p12 : P12
-p12 clock l = rw (yield-1 clock l, yield-2 clock l, yield-3 clock l, yield-4 clock l, deadline-5 clock l) refl
+p12 clock l =
+    rw (yields-on clock l 0 (omega arith), yields-on clock l 1 (omega arith), yields-on clock l 2 (omega arith), yields-on clock l 3 (omega arith), deadline-5 clock l) refl
 
 pub proof : All edges
 proof = (refl, (p2, (p3, (p4, (p5, (p6, (p7, ((λ s reading st e. (rw e, rw e, rw e)), (p9, (p10, (p11, (p12, tt))))))))))))

@@ -119,7 +119,7 @@ retry_now clock =
 -- what each turn tells
 abbrev pub tells : List Observed → Wait → List Told
 tells [] w = []
-tells (t ∷ ts) w = (tell_turn (turned keep w t)).told ∷ tells ts (turned keep w t).wait
+tells (t ∷ ts) w = let after = tell_turn w (turned keep w t) in after.told ∷ tells ts after.wait
 
 abbrev pub yields : Told
 yields = tell 0 (3 ∷ [])

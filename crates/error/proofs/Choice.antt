@@ -1,4 +1,5 @@
 -- A choice by its cases, two tests that both hold, a test that is read back from its number, and a number as a test. Assumes nothing.
+use mir.Val.{bool_byte}
 use Prim.Native.Nat.{ℕ}
 use mathlib.Core.Path.{◌≡◌, refl}
 use mathlib.Core.Bool.{Bool, true, false, ◌&&◌, false≢true}
@@ -29,3 +30,8 @@ flag-yes n h = simp (ne_eqb n 0 h)
 pub flag-bit : (p : Bool) → flag_of (bit p) ≡ p
 flag-bit true = refl
 flag-bit false = refl
+
+-- a flag made a number by the library is its bit
+pub byte-bit : (x : Bool) → bool_byte x ≡ bit x
+byte-bit true = refl
+byte-bit false = refl

@@ -1,15 +1,15 @@
 -- A refusal is known by its number, and an answer that is read back from what it tells is known by that. Assumes nothing.
 use Prim.Native.Nat.{ℕ}
 use mathlib.Core.Path.{◌≡◌, refl, sym, ap, ◌∙◌}
-use mathlib.Core.Bool.{true, false, ◌&&◌, false≢true}
+use mathlib.Core.Bool.{false, ◌&&◌, false≢true}
 use mathlib.Core.List.{List}
 use lib.Dec.{eqb, leb}
 use lib.ListN.{get_or}
 use borrow.Author.Tests.{eq-eqb}
 use Rattle.error.specs.declared.Refusal.{Refusal}
 use Rattle.error.specs.declared.Refusal.TheVariants.{Time, Limit, Storage, Unsound, Full, Turn, Damaged, Version, Name}
-use Rattle.std.proofs.Common.{if◌then◌else◌}
-use Rattle.error.specs.Told.{Told, tell, number_of, refused}
+use Rattle.std.proofs.Common.{if◌then◌else◌, Result, Ok, Err}
+use Rattle.error.specs.Told.{Told, tell, number_of, refused, told_by}
 
 abbrev pub named : ℕ → Refusal
 named n =
@@ -94,3 +94,15 @@ read-refused good more refusal Name = refl
 -- a value, or 0 where there is none
 abbrev pub at : List ℕ → ℕ → ℕ
 at vs i = get_or vs i 0
+
+-- an answer told with 0 and values that are read back, or refused
+pub told_by-one : {A : Type 0} (values : A → List ℕ) (meant : List ℕ → A) → ((a : A) → meant (values a) ≡ a) → (x y : Result A Refusal)
+    → told_by (λ a. tell 0 (values a)) x ≡ told_by (λ a. tell 0 (values a)) y → x ≡ y
+told_by-one {A} values meant back = one (told_by (λ a. tell 0 (values a))) reading again
+  where
+    reading : Told → Result A Refusal
+    reading = read (λ vs. Ok (meant vs)) (λ n vs. Ok (meant vs)) Err
+
+    again : (x : Result A Refusal) → reading (told_by (λ a. tell 0 (values a)) x) ≡ x
+    again (Ok a) = ap Ok (back a)
+    again (Err r) = read-refused (λ vs. Ok (meant vs)) (λ n vs. Ok (meant vs)) Err r

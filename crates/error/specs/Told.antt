@@ -1,5 +1,5 @@
 -- "What a caller is told": how an answer is told, and the refusals 1 to 5, 11 and 13 to 15. Rows 6 to 10 stand in specs/Answers of breaker, wait and waiting.
-use Rattle.std.specs.Prelude.{ℕ, List, []}
+use Rattle.std.specs.Prelude.{ℕ, List, [], Result, Ok, Err}
 use Rattle.error.specs.declared.Refusal.{Refusal}
 use Rattle.error.specs.declared.Refusal.TheVariants.{Time, Limit, Storage, Unsound, Full, Turn, Damaged, Version, Name}
 
@@ -30,3 +30,12 @@ number_of Name = 15
 -- rows 1 to 5, 11 and 13 to 15 return the number alone
 abbrev pub refused : Refusal → Told
 refused r = tell (number_of r) []
+
+-- what an answer tells, or what is told in its place
+abbrev pub told_or : {A E : Type 0} → (A → Told) → (E → Told) → Result A E → Told
+told_or answer instead (Ok a) = answer a
+told_or answer instead (Err e) = instead e
+
+-- what an answer tells, or its refusal
+abbrev pub told_by : {A : Type 0} → (A → Told) → Result A Refusal → Told
+told_by answer = told_or answer refused

@@ -17,54 +17,60 @@ ghost use Rattle.waiting.specs.Answers.{begun_told, awaited_told, course_told};
 ghost use Rattle.waiting.specs.Calls as Waits;
 ghost use Rattle.waiting.specs.Calls.{pending_after, pending_run};
 
-use breaker::{
-    Admission, Breaker, Counted, Decided, Decision, Finished, Notice, Reservation, Reserved,
-    Standing, Ticket, Tried,
-};
+use breaker::{Breaker, Decision, Delay, NotAdmitted, Ticket, Tried};
+use error::Refusal;
 pub use previews::{preview_abort, preview_settle};
 pub use saving::{restore, save};
 use trip::CircuitBreakerBuilder;
-use wait::{Dropped, Observed};
-use waiting::{Awaited, Begun, Pending, Progress};
+use wait::Observed;
+use waiting::{Awaited, Pending, Progress};
 
 // ---- calls that may change the record; one that is refused leaves all as it was
 
 // Puts a fresh breaker into record and storage.
 // Ruled out: a record kept from before the build; a refused build that empties the storage.
-pub fn build(breaker: &mut Breaker, list: &mut [u64], builder: CircuitBreakerBuilder) -> Finished
+pub fn build(
+    breaker: &mut Breaker,
+    list: &mut [u64],
+    builder: CircuitBreakerBuilder,
+) -> Result<(), Refusal>
     ensures { after (finished_told result) breaker.new list.new ≡ Calls.built builder breaker.old list.old }
 {
-    let s = breaker::build(*breaker, list, builder);
-    *breaker = s.breaker;
-    s.answer
+    *breaker = breaker::build(list, builder)?;
+    Ok(())
 }
 
 // Admits a call, through the trait side or not, or sheds it with a delay.
 // Ruled out: a probe whose record is not stored; one that grants generation 0 to all.
-pub fn admit_as(breaker: &mut Breaker, list: &mut [u64], now_ms: u64, via_trait: bool) -> Admission
-    ensures { after (admission_told result) breaker.new list.new
-        ≡ on_sound (Calls.admission via_trait now_ms) breaker.old list.old }
+pub fn admit_as(
+    breaker: &mut Breaker,
+    list: &[u64],
+    now_ms: u64,
+    via_trait: bool,
+) -> Result<Ticket, NotAdmitted>
+    ensures { after (admission_told result) breaker.new list.now
+        ≡ on_sound (Calls.admission via_trait now_ms) breaker.old list.now }
 {
-    let s = admission::admit_as(*breaker, list, now_ms, via_trait);
-    *breaker = s.breaker;
-    s.answer
+    let admitted = admission::admit_as(*breaker, list, now_ms, via_trait)?;
+    *breaker = admitted.breaker;
+    Ok(admitted.answer)
 }
 
 // Admits a call whose inner limiter gave this reply to a request of 1.
 // Ruled out: a transition undone by an inner retry; a shed that changes the record.
 pub fn try_admit(
     breaker: &mut Breaker,
-    list: &mut [u64],
+    list: &[u64],
     now_ms: u64,
     inner: Decision,
     capacity: u32,
-) -> Tried
-    ensures { after (tried_told result) breaker.new list.new
-        ≡ on_sound (Calls.try_admit inner capacity now_ms) breaker.old list.old }
+) -> Result<Tried, NotAdmitted>
+    ensures { after (tried_told result) breaker.new list.now
+        ≡ on_sound (Calls.try_admit inner capacity now_ms) breaker.old list.now }
 {
-    let s = admission::try_admit(*breaker, list, now_ms, inner, capacity);
-    *breaker = s.breaker;
-    s.answer
+    let tried = admission::try_admit(*breaker, list, now_ms, inner, capacity)?;
+    *breaker = tried.breaker;
+    Ok(tried.answer)
 }
 
 // Reports the outcome of a call with its ticket.
@@ -75,40 +81,37 @@ pub fn settle(
     now_ms: u64,
     ticket: Ticket,
     success: bool,
-) -> Finished
+) -> Result<(), Refusal>
     ensures { after (finished_told result) breaker.new list.new
         ≡ on_sound (Calls.settle now_ms ticket success) breaker.old list.old }
 {
-    let s = circuit::settle(*breaker, list, now_ms, ticket, success);
-    *breaker = s.breaker;
-    s.answer
+    *breaker = circuit::settle(*breaker, list, now_ms, ticket, success)?;
+    Ok(())
 }
 
 // Gives an admission back without an outcome, through the trait side or not.
 // Ruled out: an abort that is told and not stored; one of a stale probe.
 pub fn abort_as(
     breaker: &mut Breaker,
-    list: &mut [u64],
+    list: &[u64],
     ticket: Ticket,
     via_trait: bool,
-) -> Finished
-    ensures { after (finished_told result) breaker.new list.new
-        ≡ on_sound (Calls.abort_as ticket via_trait) breaker.old list.old }
+) -> Result<(), Refusal>
+    ensures { after (finished_told result) breaker.new list.now
+        ≡ on_sound (Calls.abort_as ticket via_trait) breaker.old list.now }
 {
-    let s = circuit::abort_as(*breaker, list, ticket, via_trait);
-    *breaker = s.breaker;
-    s.answer
+    *breaker = circuit::abort_as(*breaker, list, ticket, via_trait)?;
+    Ok(())
 }
 
 // Frees one trial that was taken through the trait side.
 // Ruled out: one that frees a plain probe; one that acts outside HalfOpen.
-pub fn release_trait_probe(breaker: &mut Breaker, list: &mut [u64]) -> Finished
-    ensures { after (finished_told result) breaker.new list.new
-        ≡ on_sound (λ s st. Rules.done (Rules.released st)) breaker.old list.old }
+pub fn release_trait_probe(breaker: &mut Breaker, list: &[u64]) -> Result<(), Refusal>
+    ensures { after (finished_told result) breaker.new list.now
+        ≡ on_sound (λ s st. Rules.done (Rules.released st)) breaker.old list.now }
 {
-    let s = circuit::release_trait_probe(*breaker, list);
-    *breaker = s.breaker;
-    s.answer
+    *breaker = circuit::release_trait_probe(*breaker, list)?;
+    Ok(())
 }
 
 // Reports an outcome without a ticket.
@@ -118,23 +121,22 @@ pub fn record_manual(
     list: &mut [u64],
     now_ms: u64,
     success: bool,
-) -> Finished
+) -> Result<(), Refusal>
     ensures { after (finished_told result) breaker.new list.new
         ≡ on_sound (λ s st. Rules.manual s now_ms success st) breaker.old list.old }
 {
-    let s = circuit::record_manual(*breaker, list, now_ms, success);
-    *breaker = s.breaker;
-    s.answer
+    *breaker = circuit::record_manual(*breaker, list, now_ms, success)?;
+    Ok(())
 }
 
 // Forces the breaker Closed and empties its history.
 // Ruled out: a list emptied and a record kept; open-until set to 0.
-pub fn reset(breaker: &mut Breaker, list: &mut [u64]) -> Finished
-    ensures { after (finished_told result) breaker.new list.new ≡ on_sound (λ s st. Rules.reset st) breaker.old list.old }
+pub fn reset(breaker: &mut Breaker, list: &mut [u64]) -> Result<(), Refusal>
+    ensures { after (finished_told result) breaker.new list.new
+        ≡ on_sound (λ s st. Rules.reset st) breaker.old list.old }
 {
-    let s = circuit::reset(*breaker, list);
-    *breaker = s.breaker;
-    s.answer
+    *breaker = circuit::reset(*breaker, list)?;
+    Ok(())
 }
 
 // Puts new settings in force: a fresh record of the next generation.
@@ -143,12 +145,12 @@ pub fn reconfigure(
     breaker: &mut Breaker,
     list: &mut [u64],
     builder: CircuitBreakerBuilder,
-) -> Finished
-    ensures { after (finished_told result) breaker.new list.new ≡ Calls.reconfigured builder breaker.old list.old }
+) -> Result<(), Refusal>
+    ensures { after (finished_told result) breaker.new list.new
+        ≡ Calls.reconfigured builder breaker.old list.old }
 {
-    let s = circuit::reconfigure(*breaker, list, builder);
-    *breaker = s.breaker;
-    s.answer
+    *breaker = circuit::reconfigure(*breaker, list, builder)?;
+    Ok(())
 }
 
 // Settles a permit as a success.
@@ -158,13 +160,12 @@ pub fn permit_success(
     list: &mut [u64],
     now_ms: u64,
     ticket: Ticket,
-) -> Finished
+) -> Result<(), Refusal>
     ensures { after (finished_told result) breaker.new list.new
         ≡ on_sound (Calls.settle now_ms ticket true) breaker.old list.old }
 {
-    let s = circuit::permit_success(*breaker, list, now_ms, ticket);
-    *breaker = s.breaker;
-    s.answer
+    *breaker = circuit::permit_success(*breaker, list, now_ms, ticket)?;
+    Ok(())
 }
 
 // Settles a permit as a failure.
@@ -174,13 +175,12 @@ pub fn permit_failure(
     list: &mut [u64],
     now_ms: u64,
     ticket: Ticket,
-) -> Finished
+) -> Result<(), Refusal>
     ensures { after (finished_told result) breaker.new list.new
         ≡ on_sound (Calls.settle now_ms ticket false) breaker.old list.old }
 {
-    let s = circuit::permit_failure(*breaker, list, now_ms, ticket);
-    *breaker = s.breaker;
-    s.answer
+    *breaker = circuit::permit_failure(*breaker, list, now_ms, ticket)?;
+    Ok(())
 }
 
 // Finishes a permit that was dropped unsettled: a failure.
@@ -190,60 +190,66 @@ pub fn permit_dropped(
     list: &mut [u64],
     now_ms: u64,
     ticket: Ticket,
-) -> Finished
+) -> Result<(), Refusal>
     ensures { after (finished_told result) breaker.new list.new
         ≡ on_sound (Calls.settle now_ms ticket false) breaker.old list.old }
 {
-    let s = circuit::permit_dropped(*breaker, list, now_ms, ticket);
-    *breaker = s.breaker;
-    s.answer
+    *breaker = circuit::permit_dropped(*breaker, list, now_ms, ticket)?;
+    Ok(())
 }
 
 // Gives the admission back, with a notice to refund 1 to the inner limiter.
 // Ruled out: no notice for a stale ticket; an outcome recorded.
-pub fn permit_cancel(breaker: &mut Breaker, list: &mut [u64], ticket: Ticket) -> Notice
-    ensures { after (notice_told result) breaker.new list.new ≡ on_sound (Calls.cancel ticket) breaker.old list.old }
+pub fn permit_cancel(breaker: &mut Breaker, list: &[u64], ticket: Ticket) -> Result<u32, Refusal>
+    ensures { after (notice_told result) breaker.new list.now
+        ≡ on_sound (Calls.cancel ticket) breaker.old list.now }
 {
-    let s = circuit::permit_cancel(*breaker, list, ticket);
-    *breaker = s.breaker;
-    s.answer
+    let cancelled = circuit::permit_cancel(*breaker, list, ticket)?;
+    *breaker = cancelled.breaker;
+    Ok(cancelled.answer)
 }
 
 // Admits through the trait side, with the inner limiter's reply.
 // Ruled out: a shed told as number 6; a trait probe kept after an inner retry.
 pub fn acquire_cost(
     breaker: &mut Breaker,
-    list: &mut [u64],
+    list: &[u64],
     now_ms: u64,
     inner: Decision,
-) -> Decided
-    ensures { after (decided_told result) breaker.new list.new
-        ≡ on_sound (Calls.acquire_cost inner now_ms) breaker.old list.old }
+) -> Result<Decision, Refusal>
+    ensures { after (decided_told result) breaker.new list.now
+        ≡ on_sound (Calls.acquire_cost inner now_ms) breaker.old list.now }
 {
-    let s = admission::acquire_cost(*breaker, list, now_ms, inner);
-    *breaker = s.breaker;
-    s.answer
+    let acquired = admission::acquire_cost(*breaker, list, now_ms, inner)?;
+    *breaker = acquired.breaker;
+    Ok(acquired.answer)
 }
 
 // Reserves through the trait side, with the inner limiter's reply.
 // Ruled out: a shed that hands on the inner wait; a probe kept without a reservation.
-pub fn reserve(breaker: &mut Breaker, list: &mut [u64], now_ms: u64, inner: Reservation) -> Reserved
-    ensures { after (reserved_told result) breaker.new list.new
-        ≡ on_sound (Calls.reserve inner now_ms) breaker.old list.old }
+pub fn reserve(
+    breaker: &mut Breaker,
+    list: &[u64],
+    now_ms: u64,
+    inner: Option<Delay>,
+) -> Result<Option<Delay>, Refusal>
+    ensures { after (reserved_told result) breaker.new list.now
+        ≡ on_sound (Calls.reserve inner now_ms) breaker.old list.now }
 {
-    let s = admission::reserve(*breaker, list, now_ms, inner);
-    *breaker = s.breaker;
-    s.answer
+    let reserved = admission::reserve(*breaker, list, now_ms, inner)?;
+    *breaker = reserved.breaker;
+    Ok(reserved.answer)
 }
 
 // Frees a trait trial, with a notice to refund the cost to the inner limiter.
 // Ruled out: no notice in Closed; a refund of 1 whatever the cost.
-pub fn refund(breaker: &mut Breaker, list: &mut [u64], cost: u32) -> Notice
-    ensures { after (notice_told result) breaker.new list.new ≡ on_sound (Calls.refund cost) breaker.old list.old }
+pub fn refund(breaker: &mut Breaker, list: &[u64], cost: u32) -> Result<u32, Refusal>
+    ensures { after (notice_told result) breaker.new list.now
+        ≡ on_sound (Calls.refund cost) breaker.old list.now }
 {
-    let s = admission::refund(*breaker, list, cost);
-    *breaker = s.breaker;
-    s.answer
+    let refunded = admission::refund(*breaker, list, cost)?;
+    *breaker = refunded.breaker;
+    Ok(refunded.answer)
 }
 
 // Runs a sequence of finishing calls at one reading, given as slices of equal length; each call's number goes to `answers`.
@@ -259,14 +265,14 @@ pub fn finish_all(
     settles: &[u8],
     marks: &[u8],
     answers: &mut [u64],
-) -> Finished
+) -> Result<(), Refusal>
     ensures answers_after { batch (after (finished_told result) breaker.new list.new) answers.new
         ≡ finished_all now_ms (slices generations.now probes.now settles.now marks.now)
         breaker.old list.old answers.old }
     ensures orders { sound breaker.old list.old ≡ true → breaker.old.shared.state ≡ HalfOpen
         → FinishingOrders now_ms breaker.old list.old }
 {
-    let s = batch::finish_all(
+    *breaker = batch::finish_all(
         *breaker,
         list,
         now_ms,
@@ -275,9 +281,8 @@ pub fn finish_all(
         settles,
         marks,
         answers,
-    );
-    *breaker = s.breaker;
-    s.answer
+    )?;
+    Ok(())
 }
 
 // ---- calls of a wait; one that is refused leaves the breaker as it was
@@ -286,71 +291,71 @@ pub fn finish_all(
 // Ruled out: a probe taken and not stored; a shed that ends the wait that was pending.
 pub fn wait_start(
     breaker: &mut Breaker,
-    list: &mut [u64],
+    list: &[u64],
     pending: &mut Pending,
     now_ms: u64,
     clock: u64,
     limited: bool,
     timeout: u64,
-) -> Begun
-    ensures { pending_after (begun_told result) breaker.new list.new pending.new
-        ≡ Waits.start_pending now_ms clock limited timeout breaker.old list.old pending.old }
+) -> Result<(), NotAdmitted>
+    ensures { pending_after (begun_told result) breaker.new list.now pending.new
+        ≡ Waits.start_pending now_ms clock limited timeout breaker.old list.now pending.old }
 {
-    let s = waiting::start(*breaker, list, *pending, now_ms, clock, limited, timeout);
-    *breaker = s.breaker;
-    *pending = s.pending;
-    s.answer
+    let begun = waiting::start(*breaker, list, now_ms, clock, limited, timeout)?;
+    *breaker = begun.breaker;
+    *pending = begun.pending;
+    Ok(())
 }
 
 // One turn: what the host is to do before the next, or how the wait ends.
 // Ruled out: a turn told and its wait not stored; a deadline told and its ticket kept.
 pub fn wait_turn(
     breaker: &mut Breaker,
-    list: &mut [u64],
+    list: &[u64],
     pending: &mut Pending,
     turn: Observed,
     now_ms: u64,
     capacity: u32,
-) -> Awaited
-    ensures { pending_after (awaited_told result) breaker.new list.new pending.new
-        ≡ Waits.turn_pending turn now_ms capacity breaker.old list.old pending.old }
+) -> Result<Awaited, Refusal>
+    ensures { pending_after (awaited_told result) breaker.new list.now pending.new
+        ≡ Waits.turn_pending turn now_ms capacity breaker.old list.now pending.old }
 {
-    let s = waiting::turn(*breaker, list, *pending, turn, now_ms, capacity);
-    *breaker = s.breaker;
-    *pending = s.pending;
-    s.answer
+    let turned = waiting::turn(*breaker, list, *pending, turn, now_ms, capacity)?;
+    *breaker = turned.breaker;
+    *pending = turned.pending;
+    Ok(turned.answer)
 }
 
 // Takes turns until the wait ends, one is refused, or the limit or the turns are used up; says how many it took.
 // Ruled out: a run that takes its first turn only; one that leaves the wait as it was before.
 pub fn wait_run(
     breaker: &mut Breaker,
-    list: &mut [u64],
+    list: &[u64],
     pending: &mut Pending,
     turns: &[u64],
     limit: u64,
     now_ms: u64,
     capacity: u32,
 ) -> Progress
-    ensures { pending_run (pending_after (course_told result.course) breaker.new list.new pending.new) result.taken
-        ≡ Waits.run_pending turns.now limit now_ms capacity breaker.old list.old pending.old }
+    ensures { pending_run (pending_after (course_told result.course) breaker.new list.now pending.new) result.taken
+        ≡ Waits.run_pending turns.now limit now_ms capacity breaker.old list.now pending.old }
 {
-    let s = waiting::run(*breaker, list, *pending, turns, limit, now_ms, capacity);
-    *breaker = s.breaker;
-    *pending = s.pending;
-    s.answer
+    let ran = waiting::run(*breaker, list, *pending, turns, limit, now_ms, capacity);
+    *breaker = ran.breaker;
+    *pending = ran.pending;
+    ran.answer
 }
 
 // Ends a wait before its time: the ticket is given back, and a held grant is to be.
 // Ruled out: a drop whose ticket stays out; a wait that can be dropped twice.
-pub fn wait_drop(breaker: &mut Breaker, list: &mut [u64], pending: &mut Pending) -> Dropped
-    ensures { pending_after (dropped_told result) breaker.new list.new pending.new
-        ≡ Waits.drop_pending breaker.old list.old pending.old }
+pub fn wait_drop(breaker: &mut Breaker, list: &[u64], pending: &mut Pending) -> Result<u64, Refusal>
+    ensures { pending_after (dropped_told result) breaker.new list.now pending.new
+        ≡ Waits.drop_pending breaker.old list.now pending.old }
 {
-    let s = waiting::drop_pending(*breaker, list, *pending);
-    *breaker = s.breaker;
-    *pending = s.pending;
-    s.answer
+    let dropped = waiting::drop_pending(*breaker, list, *pending)?;
+    *breaker = dropped.breaker;
+    *pending = dropped.pending;
+    Ok(dropped.answer)
 }
 
 // ---- calls that only read it
@@ -365,7 +370,12 @@ pub fn is_sound(breaker: &Breaker, list: &[u64]) -> bool
 
 // Whether a waiter with this ticket may still go.
 // Ruled out: one that looks at the state before the generation; a delay in HalfOpen.
-pub fn still_admits(breaker: &Breaker, list: &[u64], now_ms: u64, ticket: Ticket) -> Standing
+pub fn still_admits(
+    breaker: &Breaker,
+    list: &[u64],
+    now_ms: u64,
+    ticket: Ticket,
+) -> Result<(), NotAdmitted>
     ensures { standing_told result ≡ asked (Calls.still_admitted now_ms ticket) breaker.now list.now }
 {
     admission::still_admits(*breaker, list, now_ms, ticket)
@@ -373,15 +383,20 @@ pub fn still_admits(breaker: &Breaker, list: &[u64], now_ms: u64, ticket: Ticket
 
 // The board figure: failures in a thousand calls of the Ratio list.
 // Ruled out: a figure for a Windowed list; one that counts the good calls.
-pub fn board(breaker: &Breaker, list: &[u64]) -> Counted
-    ensures { counted_told result ≡ asked Calls.board breaker.now list.now }
+pub fn board(breaker: &Breaker, list: &[u64]) -> Result<u64, Refusal>
+    ensures { counted_told result ≡ asked (Calls.board) breaker.now list.now }
 {
     circuit::board(*breaker, list)
 }
 
 // The verdict without a transition, else the inner limiter's peek.
 // Ruled out: an Open breaker past its cooldown that still refuses; a shed told as number 6.
-pub fn peek(breaker: &Breaker, list: &[u64], now_ms: u64, inner: Decision) -> Decided
+pub fn peek(
+    breaker: &Breaker,
+    list: &[u64],
+    now_ms: u64,
+    inner: Decision,
+) -> Result<Decision, Refusal>
     ensures { decided_told result ≡ asked (Calls.peek inner now_ms) breaker.now list.now }
 {
     admission::peek(*breaker, list, now_ms, inner)
@@ -395,7 +410,7 @@ pub fn available(
     now_ms: u64,
     inner: Decision,
     count: u32,
-) -> Counted
+) -> Result<u64, Refusal>
     ensures { counted_told result ≡ asked (Calls.available inner count now_ms) breaker.now list.now }
 {
     admission::available(*breaker, list, now_ms, inner, count)

@@ -1,12 +1,11 @@
 // A look before a permit of a lent record is finished. Record and list are only read.
 ghost use Rattle.std.specs.Prelude.{◌≡◌};
-ghost use Rattle.breaker.specs.Answers.{finished_told};
 ghost use Rattle.breaker.specs.Calls as Calls;
 ghost use Rattle.breaker.specs.Calls.{on_sound};
-ghost use Rattle.preview.specs.Preview.{preview, preview_of};
+ghost use Rattle.preview.specs.Preview.{previewed, preview_of};
 
 use breaker::{Breaker, Ticket};
-use preview::Previewed;
+use error::Refusal;
 
 // What `settle` would do.
 // Ruled out: a failure with no room that is told as done; a length that leaves out the eviction.
@@ -16,8 +15,8 @@ pub fn preview_settle(
     now_ms: u64,
     ticket: Ticket,
     success: bool,
-) -> Previewed
-    ensures { preview (finished_told result.answer) result.breaker result.len
+) -> Result<Breaker, Refusal>
+    ensures { previewed result breaker.now
         ≡ preview_of (on_sound (Calls.settle now_ms ticket success) breaker.now list.now) }
 {
     preview::preview_settle(*breaker, list, now_ms, ticket, success)
@@ -25,8 +24,13 @@ pub fn preview_settle(
 
 // What `abort_as` would do.
 // Ruled out: a trait abort that leaves the trait probes; an abort of a stale probe.
-pub fn preview_abort(breaker: &Breaker, list: &[u64], ticket: Ticket, via_trait: bool) -> Previewed
-    ensures { preview (finished_told result.answer) result.breaker result.len
+pub fn preview_abort(
+    breaker: &Breaker,
+    list: &[u64],
+    ticket: Ticket,
+    via_trait: bool,
+) -> Result<Breaker, Refusal>
+    ensures { previewed result breaker.now
         ≡ preview_of (on_sound (Calls.abort_as ticket via_trait) breaker.now list.now) }
 {
     preview::preview_abort(*breaker, list, ticket, via_trait)

@@ -6,12 +6,18 @@ ghost use Rattle.breaker.specs.Calls.{after};
 ghost use Rattle.saves.specs.Buffer.{Reading, Reads};
 ghost use Rattle.checkpoints.specs.Calls.{restored, save_after, saved, saving_told};
 
-use breaker::{Breaker, Finished};
-use checkpoints::Saving;
+use breaker::Breaker;
+use error::Refusal;
 
 // Saves a breaker under a name at the used length of a buffer.
 // Ruled out: a save that writes past its run; a name that is there twice.
-pub fn save(breaker: &Breaker, list: &[u64], buffer: &mut [u8], used: usize, name: &[u8]) -> Saving
+pub fn save(
+    breaker: &Breaker,
+    list: &[u64],
+    buffer: &mut [u8],
+    used: usize,
+    name: &[u8],
+) -> Result<usize, Refusal>
     ensures { (x : Reading) × (sound breaker.now list.now ≡ true → Reads buffer.old used x)
         × (save_after (saving_told result) buffer.new
         ≡ saved x name.now breaker.now list.now buffer.old used) }
@@ -27,12 +33,11 @@ pub fn restore(
     buffer: &[u8],
     used: usize,
     name: &[u8],
-) -> Finished
+) -> Result<(), Refusal>
     ensures { (x : Reading) × (sound breaker.old list.old ≡ true → Reads buffer.now used x)
         × (after (finished_told result) breaker.new list.new
         ≡ restored x name.now breaker.old list.old) }
 {
-    let s = checkpoints::restore(*breaker, list, buffer, used, name);
-    *breaker = s.breaker;
-    s.answer
+    *breaker = checkpoints::restore(*breaker, list, buffer, used, name)?;
+    Ok(())
 }

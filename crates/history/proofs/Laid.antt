@@ -1,16 +1,11 @@
 -- A list laid over another in storage, and what that is where the storage was padded. Assumes nothing.
-use Rattle.std.proofs.Common.{◌≡◌, ℕ, zero, suc, ◌+◌, ◌-◌, ◌<◌, ◌≤◌, max, Bool, true, false, ltb, List, [], ◌∷◌, ◌++◌, length, get_or, take, drop, set, replicate, refl, ap, ◌∙◌, arith, length-append, length-drop, length-take-le, drop-cons, drop-drop, take_at, drop_at, ltb-false, ltb-true}
-use native.Mathlib.Nat.{suc-sub-suc, zero-sub, sub-zero}
+use Rattle.std.proofs.Common.{◌≡◌, ℕ, suc, ◌+◌, ◌-◌, ◌<◌, ◌≤◌, max, Bool, true, false, ltb, List, [], ◌∷◌, ◌++◌, length, get_or, take, drop, set, replicate, refl, ap, ◌∙◌, arith, length-append, length-drop, length-take-le, drop-cons, drop-drop, take_at, drop_at, ltb-false, ltb-true}
 use lib.ListN.{replicate-append-replicate}
+use Rattle.std.proofs.lemmas.List.{drop-replicate}
 use lib.Seq.{append_snoc, set_at, drop-append-add}
 use Rattle.history.specs.Items.{padded}
 use Rattle.history.specs.Change.{laid}
 use Rattle.history.proofs.Laws.{take-drop}
-
-drop-zeros : (j n : ℕ) → drop {A = ℕ} j (replicate n 0) ≡ replicate (n - j) 0
-drop-zeros zero n = rw sub-zero
-drop-zeros (suc j) zero = rw zero-sub
-drop-zeros (suc j) (suc n) = rw suc-sub-suc (drop-zeros j n)
 
 -- of the n items in s the k oldest go, and m stay
 module _ (s : List ℕ) (n k m : ℕ) (e : k + m ≡ n) (l : n ≤ length s) where
@@ -65,8 +60,5 @@ laid-padded n xs s h l k p =
     ap (λ (t : List ℕ). drop (max n (length xs)) t) p
     ∙ ap (λ (i : ℕ). drop i (padded (take n s))) d
     ∙ drop-append-add (take n s) (replicate (4096 - length (take n s)) 0) j
-    ∙ drop-zeros j (4096 - length (take n s)) in
-    ap (λ (t : List ℕ). xs ++ t)
-    (ap (λ (t : List ℕ). replicate (n - length xs) 0 ++ t) tail
-    ∙ replicate-append-replicate (n - length xs) (4096 - length (take n s) - j) 0
-    ∙ ap (λ (i : ℕ). replicate i 0) r)
+    ∙ drop-replicate j (4096 - length (take n s)) 0 in
+    rw (tail, replicate-append-replicate, r)

@@ -5,5 +5,6 @@ pub mod Laid
 pub mod Sound
 pub mod Change
 pub mod Recorded
+pub mod Folds
 pub mod Held
 pub mod OneToOne

@@ -1,26 +1,11 @@
 -- The list after an outcome, as what goes of it and what is appended; and how it is counted in the list as it stands. Assumes nothing.
 --     outcome-is, outcome-failures     Ratio: k of the outcomes are over the window
 --     time-is, time-recent             Windowed
---     part-from                        the two parts of the storage that a count from a place on walks
-use Rattle.std.proofs.Common.{◌≡◌, ℕ, ◌+◌, ◌-◌, ◌≤◌, min, List, [], ◌∷◌, ◌++◌, length, take, drop, sym, ap, ◌∙◌, arith, length-append, drop-drop, take-add, le-leb}
+use Rattle.std.proofs.Common.{◌≡◌, ℕ, ◌+◌, ◌-◌, ◌≤◌, List, [], ◌∷◌, ◌++◌, length, drop, sym, ap, ◌∙◌, arith, length-append, le-leb}
 use lib.Seq.{drop-append-le}
 use Rattle.history.specs.Items.{sum_of, failures, recent, evicted, with_outcome}
-use Rattle.history.proofs.Laws.{take_min, take-drop}
 use Rattle.history.proofs.Counts.{sum-append}
-use Rattle.history.proofs.Change.{drop_min, evicted-more}
-
-pub part-from : (first len n k e : ℕ) (s : List ℕ) → n ≡ min len (length s) → k ≡ min first n → k ≤ e → e ≤ n
-    → take (e - k) (drop k s) ++ take (n - e) (drop e s) ≡ drop first (take len s)
-part-from first len n k e s p q a b =
-    let m : k + (n - k) ≡ n = omega arith in
-    let o : e - k + (n - e) ≡ n - k = omega arith in
-    let d : k + (e - k) ≡ e = omega arith in
-    let v : take n s ≡ take len s = ap (λ (i : ℕ). take i s) p ∙ take_min len s in
-    let w : drop e s ≡ drop (e - k) (drop k s) = ap (λ (i : ℕ). drop i s) (sym d) ∙ sym (drop-drop (e - k) k s) in
-    ap (λ (t : List ℕ). take (e - k) (drop k s) ++ take (n - e) t) w
-    ∙ sym (take-add (e - k) (n - e) (drop k s))
-    ∙ ap (λ (i : ℕ). take i (drop k s)) o
-    ∙ take-drop k (n - k) s ∙ ap (λ (i : ℕ). drop k (take i s)) m ∙ ap (λ (i : ℕ). drop i (take n s)) q ∙ drop_min first n s (omega arith) ∙ ap (drop first) v
+use Rattle.history.proofs.Change.{evicted-more}
 
 -- ---- Ratio
 pub outcome-is : (w o k : ℕ) (xs : List ℕ) → 1 ≤ w → length xs + 1 - w ≡ k → with_outcome w o xs ≡ drop k xs ++ o ∷ []

@@ -2,12 +2,14 @@
 --     sound→       the test passes: the storage has 4,096 places, and is the list that lies in it, padded; the length is one that its kind may have
 --     →sound       a list of such a length and such items, padded, passes
 --     view-padded  the list that lies in a padded list is that list
-use Rattle.std.proofs.Common.{◌≡◌, ℕ, zero, suc, ◌-◌, ◌≤◌, true, ◌&&◌, eqb, ltb, leb, List, [], ◌∷◌, ◌++◌, length, take, drop, replicate, sym, refl, ap, ◌∙◌, arith, length-append, length-drop, take-append-drop, length-take-le, ltb-true, eq-eqb, eqb-true, le-leb, leb-true}
+--     by_tests     the test, as it is made
+use Rattle.std.proofs.Common.{◌≡◌, ℕ, zero, suc, ◌-◌, ◌≤◌, Bool, true, ◌&&◌, eqb, ltb, leb, List, [], ◌∷◌, ◌++◌, length, take, drop, replicate, sym, refl, ap, ◌∙◌, arith, length-append, length-drop, take-append-drop, length-take-le, ltb-true, eq-eqb, ne_eqb, eqb-true, le-leb, leb-true, le-ltb}
 use lib.ListN.{length-replicate}
 use lib.Seq.{take-append_seam, drop-append_seam}
 use Rattle.history.specs.declared.Items.{Items}
 use Rattle.history.specs.declared.Items.TheVariants.{Nothing, Outcomes, Times}
 use Rattle.history.specs.Items.{view, padded, all_below, fits, are_items, sound_list}
+use mathlib.Core.Bool.{and_assoc}
 use Rattle.error.proofs.Choice.{and_split}
 
 pub fits-outcomes : (w n : ℕ) → fits (Outcomes w) n ≡ true → (1 ≤ w) × (w ≤ 4096) × (n ≤ w)
@@ -74,3 +76,15 @@ length-padded xs h = simp (length-append, length-replicate) (omega arith)
 pub →sound : (items : Items) (xs : List ℕ) → fits items (length xs) ≡ true → are_items items xs ≡ true → sound_list items (length xs) (padded xs) ≡ true
 unfolding sound_list
 →sound items xs f k = simp (f, eq-eqb _ _ (length-padded xs (fits_le items (length xs) f)), view-padded, drop-append_seam, below-zeros, k)
+
+-- what is below 1 is 0, as a test
+pub no_bits : (n : ℕ) → eqb n 0 ≡ ltb n 1
+no_bits zero = refl
+no_bits (suc n) = ne_eqb (suc n) 0 (λ e. omega arith) ∙ sym (le-ltb (suc n) 1 (omega arith))
+
+-- the tests one after the other
+pub by_tests : (items : Items) (n : ℕ) (s : List ℕ) (p q : Bool) → p ≡ (eqb (length s) 4096 && fits items n) → q ≡ (p && all_below 1 (drop n s))
+    → (q && are_items items (view n s)) ≡ sound_list items n s
+unfolding sound_list
+by_tests items n s p q e f =
+    simp (f, e, and_assoc)

@@ -1,18 +1,15 @@
 -- What a call that changes the list answers, and what it leaves in every place.
-use Rattle.std.specs.Prelude.{ℕ, ◌-◌, max, Bool, not, leb, List, [], ◌∷◌, ◌++◌, length, drop, replicate, ◌==◌, nat_le, if◌then◌else◌}
-use Rattle.error.specs.Told.{Told, tell, refused}
+use Rattle.std.specs.Prelude.{ℕ, ◌-◌, max, Bool, not, leb, List, [], ◌∷◌, ◌++◌, length, drop, replicate, ◌==◌, nat_le, Result, Ok, Err, if◌then◌else◌}
+use Rattle.error.specs.Told.{Told, tell, told_by}
 use Rattle.error.specs.declared.Refusal.{Refusal}
 use Rattle.error.specs.declared.Refusal.TheVariants.{Storage, Unsound, Full}
 use Rattle.history.specs.declared.Items.{Items}
 use Rattle.history.specs.declared.Items.TheVariants.{Times}
-use Rattle.history.specs.declared.Changed.{Changed}
-use Rattle.history.specs.declared.Changed.TheVariants.{Stored, Refused}
 use Rattle.history.specs.Items.{view, padded, fits, evicted}
 
--- the number of document 01's table, 0 for a change that was made, with the new length
-abbrev pub told : Changed → Told
-told (Stored n) = tell 0 (n ∷ [])
-told (Refused r) = refused r
+-- the number of the table, 0 for a change that was made, with the new length
+abbrev pub told : Result ℕ Refusal → Told
+told answer = told_by (λ n. tell 0 (n ∷ [])) answer
 
 -- what a call leaves: what it told and every place
 pub record Left : Type 0 where
@@ -28,15 +25,15 @@ laid n xs s = xs ++ (replicate (n - length xs) 0 ++ drop (max n (length xs)) s)
 
 -- the n items in s become xs
 abbrev pub become : List ℕ → ℕ → List ℕ → Left
-become xs n s = left (told (Stored (length xs))) (laid n xs s)
+become xs n s = left (told (Ok (length xs))) (laid n xs s)
 
 -- the list xs in storage of its own: what a change leaves of a sound list
 abbrev pub held : List ℕ → Left
-held xs = left (told (Stored (length xs))) (padded xs)
+held xs = left (told (Ok (length xs))) (padded xs)
 
 -- refused with every place as it was
 abbrev pub refuse : Refusal → List ℕ → Left
-refuse r s = left (told (Refused r)) s
+refuse r s = left (told (Err r)) s
 
 -- 3 for storage of other than 4,096 places, then 4 for a length that a list of the kind can't have, else the change
 abbrev pub on_list : Items → ℕ → List ℕ → Left → Left

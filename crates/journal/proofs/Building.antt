@@ -1,6 +1,6 @@
 -- Laws of the breaker that a header makes. Assumes nothing.
-use Rattle.std.specs.Prelude.{if◌then◌else◌}
-use Prim.Native.Nat.{ℕ, ◌%◌, ◌<◌, max}
+use Rattle.std.proofs.Common.{if◌then◌else◌, Result, Ok, Err}
+use Prim.Native.Nat.{ℕ, ◌%◌, ◌<◌, min, max}
 use native.Mathlib.Omega.{arith}
 use mathlib.Core.Path.{◌≡◌, refl, sym, ap, ap₂, ◌∙◌}
 use mathlib.Core.Bool.{Bool, true, false}
@@ -11,17 +11,15 @@ use lib.Ieee.Bits.{nan_bits_is, nan_bits_above, of_bits-fits}
 use lib.Dec.{ltb}
 use borrow.Author.Tests.{eq-eqb, lt-ltb}
 use Rattle.error.specs.declared.Refusal.TheVariants.{Limit}
-use Rattle.error.specs.Told.{Told, tell, refused}
+use Rattle.error.specs.Told.{tell, refused}
 use Rattle.error.specs.declared.Refusal.{Refusal}
 use Rattle.error.proofs.OneToOne.{no-refusal, refused-one}
 use Rattle.history.specs.Items.{padded}
-use Rattle.trip.specs.declared.Built.{Built}
-use Rattle.trip.specs.declared.Built.TheVariants.{Made, Refused}
 use Rattle.trip.specs.declared.Config.{Config}
 use Rattle.trip.specs.declared.CircuitBreakerBuilder.{CircuitBreakerBuilder}
 use Rattle.trip.specs.declared.Trip.TheVariants as TripIs
 use Rattle.trip.specs.declared.Duration.{Duration}
-use Rattle.trip.specs.Settings.{one_ratio, clamped_ratio, built_of}
+use Rattle.trip.specs.Settings.{one_ratio, clamped_ratio, built_of, settings_of, millis, of_millis}
 use Rattle.trip.proofs.Settings.{of-millis-time}
 use Rattle.breaker.specs.declared.Breaker.{Breaker}
 use Rattle.breaker.specs.Record.{state, stored, sound}
@@ -29,8 +27,9 @@ use Rattle.breaker.specs.Calls.{After, after, fresh, put, built}
 use Rattle.breaker.proofs.Record.{state-stored}
 use Rattle.breaker.proofs.Built.{RatioFits, sound-built}
 use Rattle.lines.specs.declared.Header.{Header}
-use Rattle.lines.specs.declared.Header.TheVariants.{Consecutive, Ratio, Windowed}
-use Rattle.journal.specs.Replay.{builder_of}
+use Rattle.lines.specs.declared.HeaderPolicy.{HeaderPolicy}
+use Rattle.lines.specs.declared.HeaderPolicy.TheVariants.{Consecutive, Ratio, Windowed}
+use Rattle.journal.specs.Replay.{trip_of, builder, builder_of}
 
 -- ---- a NaN's ratio and 1.0 are normalised alike
 clamped-nan : (r : Float) → is_nan r ≡ true → clamped_ratio r ≡ one_ratio
@@ -46,50 +45,56 @@ nan-one b h = clamped-one ∙ sym (clamped-nan (of_bits binary64 b) (sym (nan_bi
 
 -- what is built hangs on the normalised ratio alone
 pub built-ratio : (w m t q : ℕ) (d : Duration) (r r' : Float) → clamped_ratio r ≡ clamped_ratio r'
-    → built_of (record { trip = TripIs.Ratio w r m; cooldown = d; half_open_trials = t; half_open_required = q })
-    ≡ built_of (record { trip = TripIs.Ratio w r' m; cooldown = d; half_open_trials = t; half_open_required = q })
+    → built_of (builder (TripIs.Ratio w r m) d t q) ≡ built_of (builder (TripIs.Ratio w r' m) d t q)
 unfolding built_of
 built-ratio w m t q d r r' e = rw e
 
 -- ---- a header is refused by number 2 alone: its times are whole milliseconds
-limit-alone : (x : Bool) (c : Config) (r : Refusal) → (if x then Refused Limit else Made c) ≡ Refused r → r ≡ Limit
+limit-alone : (x : Bool) (c : Config) (r : Refusal) → (if x then Err Limit else Ok c) ≡ Err r → r ≡ Limit
 limit-alone true c r e = cc
 limit-alone false c r e = let z : ◌≡◌ {A = ℕ} 0 1 = cc in absurd (omega arith)
 
-pub refused-limit : (h : Header) (r : Refusal) → built_of (builder_of h) ≡ Refused r → r ≡ Limit
+pub refused-limit : (h : Header) (r : Refusal) → built_of (builder_of h) ≡ Err r → r ≡ Limit
 unfolding built_of
-refused-limit (Consecutive n c t q) r e = limit-alone false _ r (rw (of-millis-time c) at e)
-refused-limit (Ratio w b m c t q) r e = limit-alone (ltb 4096 (max w 1)) _ r (rw (of-millis-time c) at e)
-refused-limit (Windowed f p c t q) r e = limit-alone (ltb 4096 (max f 1)) _ r (rw (of-millis-time c, of-millis-time p) at e)
+refused-limit h r e = go h.policy (rw (of-millis-time h.cooldown_ms) at e)
+  where
+    go : (p : HeaderPolicy) → (let trials = max h.trials 1 in settings_of (trip_of p) (millis (of_millis h.cooldown_ms)) trials (min (max h.required 1) trials)) ≡ Err r → r ≡ Limit
+    go (Consecutive n) e = limit-alone false _ r e
+    go (Ratio w b m) e = limit-alone (ltb 4096 (max w 1)) _ r e
+    go (Windowed f p) e = limit-alone (ltb 4096 (max f 1)) _ r (rw (of-millis-time p) at e)
 
 -- ---- a header's breaker is sound
-ratio-fits : (h : Header) → RatioFits (builder_of h).trip
-ratio-fits (Consecutive n c t r) = tt
-ratio-fits (Ratio w b m c t r) = of_bits-fits binary64 b
-ratio-fits (Windowed f p c t r) = tt
+ratio-fits : (p : HeaderPolicy) → RatioFits (trip_of p)
+ratio-fits (Consecutive n) = tt
+ratio-fits (Ratio w b m) = of_bits-fits binary64 b
+ratio-fits (Windowed f p) = tt
+
+-- a breaker, where one is asked for and none is there
+pub some_breaker : Breaker
+some_breaker = stored (record { kind = 0; limit = 0; ratio_bits = 0; min_calls = 0; period_ms = 0; cooldown_ms = 0; trials = 0; required = 0 }) fresh
 
 -- what is left by building: a fresh breaker, or all as it was
 abbrev pub IsMade : Header → Breaker → List ℕ → Type 0
-IsMade h b s = (c : Config) × (built_of (builder_of h) ≡ Made c) × (b.config ≡ c) × (state b s ≡ fresh) × (sound b s ≡ true)
+IsMade h b s = (c : Config) × (built_of (builder_of h) ≡ Ok c) × (b.config ≡ c) × (state b s ≡ fresh) × (sound b s ≡ true)
 
 module _ (h : Header) (builder : CircuitBreakerBuilder) (b b' : Breaker) (s s' : List ℕ) (same : built_of builder ≡ built_of (builder_of h)) (n : length s ≡ 4096) where
-  put_is : (t : Told) → after t b' s' ≡ built builder b s → after t b' s' ≡ put (built_of (builder_of h)) b s
+  put_is : (left : After) → left ≡ built builder b s → left ≡ put (built_of (builder_of h)) b s
   unfolding built
-  put_is t e = rw (eq-eqb (length s) 4096 n, same) at e
+  put_is left e = rw (eq-eqb (length s) 4096 n, same) at e
 
   pub build-made : after (tell 0 []) b' s' ≡ built builder b s → IsMade h b' s'
-  build-made e = go (built_of (builder_of h)) refl (put_is (tell 0 []) e)
+  build-made e = go (built_of (builder_of h)) refl (put_is (after (tell 0 []) b' s') e)
     where
-      go : (x : Built) → built_of (builder_of h) ≡ x → after (tell 0 []) b' s' ≡ put x b s → IsMade h b' s'
-      go (Made c) m e =
+      go : (x : Result Config Refusal) → built_of (builder_of h) ≡ x → after (tell 0 []) b' s' ≡ put x b s → IsMade h b' s'
+      go (Ok c) m e =
           let p : b' ≡ stored c fresh = ap (λ (a : After). a.breaker) e in
           let q : s' ≡ padded [] = ap (λ (a : After). a.places) e in
-          (c, m, rw p refl, ap₂ state p q ∙ state-stored c fresh, ap₂ sound p q ∙ sound-built (builder_of h) c (ratio-fits h) m)
-      go (Refused r) m e = no-refusal r [] (ap (λ (a : After). a.told) e)
+          (c, m, rw p refl, ap₂ state p q ∙ state-stored c fresh, ap₂ sound p q ∙ sound-built (builder_of h) c (ratio-fits h.policy) m)
+      go (Err r) m e = no-refusal r [] (ap (λ (a : After). a.told) e)
 
-  pub build-refused : (r : Refusal) → after (refused r) b' s' ≡ built builder b s → (built_of (builder_of h) ≡ Refused r) × (s' ≡ s)
-  build-refused r e = go (built_of (builder_of h)) refl (put_is (refused r) e)
+  pub build-refused : (r : Refusal) → after (refused r) b' s' ≡ built builder b s → (built_of (builder_of h) ≡ Err r) × (s' ≡ s)
+  build-refused r e = go (built_of (builder_of h)) refl (put_is (after (refused r) b' s') e)
     where
-      go : (x : Built) → built_of (builder_of h) ≡ x → after (refused r) b' s' ≡ put x b s → (built_of (builder_of h) ≡ Refused r) × (s' ≡ s)
-      go (Made c) m e = no-refusal r [] (sym (ap (λ (a : After). a.told) e))
-      go (Refused w) m e = let q : r ≡ w = refused-one r w (ap (λ (a : After). a.told) e) in (rw q m, ap (λ (a : After). a.places) e)
+      go : (x : Result Config Refusal) → built_of (builder_of h) ≡ x → after (refused r) b' s' ≡ put x b s → (built_of (builder_of h) ≡ Err r) × (s' ≡ s)
+      go (Ok c) m e = no-refusal r [] (sym (ap (λ (a : After). a.told) e))
+      go (Err w) m e = let q : r ≡ w = refused-one r w (ap (λ (a : After). a.told) e) in (rw q m, ap (λ (a : After). a.places) e)

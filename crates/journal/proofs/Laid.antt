@@ -1,14 +1,14 @@
 -- Bytes laid over a buffer: one, and one run after another. And how long a printed line is. Assumes nothing.
 use mathlib.Core.Path.{◌≡◌, refl, sym, ap, ◌∙◌}
 use mathlib.Core.List.{List, [], ◌∷◌, ◌++◌, append_assoc, append-nil}
-use Prim.Native.Nat.{ℕ, zero, suc, ◌+◌, ◌-◌, ◌*◌, ◌/◌, ◌≤◌, ◌<◌, ◌^◌}
+use Prim.Native.Nat.{ℕ, zero, suc, ◌+◌, ◌*◌, ◌/◌, ◌≤◌, ◌<◌, ◌^◌}
 use native.Mathlib.Nat.{add_assoc, add-zero, pow-suc}
 use mir.Val.{Fits}
 use mir.Syntax.{w64}
 use native.Mathlib.Numerals.{add-one}
 use native.Mathlib.Omega.{arith}
 use lib.ListN.{length, take, drop, get_or, set, length-append, length-drop, take-append-drop}
-use lib.Seq.{set_split, take_all, take-suc, take_at, drop_at, drop-append-add, drop-drop, length-take-le}
+use lib.Seq.{set_split, take-suc, take_at, drop_at, drop-append-add, drop-drop, length-take-le}
 use Rattle.lines.specs.Print.{print_decimal, print_fields}
 use Rattle.lines.proofs.Numbers.{print-digit, print-more, by_digits}
 use Rattle.journal.specs.Laid.{laid}
@@ -100,9 +100,15 @@ drop-laid s at xs h =
     let e : length (take at s ++ xs) ≡ at + length xs = simp (length-append, length-take-le at s (omega arith)) in
     rw (← append_assoc (take at s) xs (drop (at + length xs) s)) (drop_at (take at s ++ xs) (drop (at + length xs) s) (at + length xs) e)
 
--- ---- a list from place k on, as a part of an array of n values
-pub part-all : (k n : ℕ) (xs : List ℕ) → length xs ≡ n → take (n - k) (drop k xs) ≡ drop k xs
-part-all k n xs e = take_all (n - k) (drop k xs) (omega (arith, length-drop k xs))
-
-pub part-short : (k n : ℕ) (xs : List ℕ) → length xs ≡ n → length (take (n - k) (drop k xs)) ≤ n
-part-short k n xs e = rw (part-all k n xs e) (omega (arith, length-drop k xs))
+-- ---- a line: a letter, two runs of fields and the feed
+pub line_laid : (out out₁ out₂ : List ℕ) (at next end letter : ℕ) (xs ys : List ℕ) → at + (2 + (length xs + length ys)) ≤ length out
+    → next ≡ at + 1 + length xs → out₁ ≡ laid (at + 1) xs (set out at letter) → end ≡ next + length ys → out₂ ≡ laid next ys out₁
+    → (end + 1 ≡ at + length (letter ∷ ((xs ++ ys) ++ (10 ∷ [])))) × (set out₂ end 10 ≡ laid at (letter ∷ ((xs ++ ys) ++ (10 ∷ []))) out)
+line_laid out out₁ out₂ at next end letter xs ys h n e m f =
+    let P = letter ∷ xs in
+    let Q = letter ∷ (xs ++ ys) in
+    let p : next ≡ at + length P = omega arith in
+    let q : end ≡ at + length Q = simp length-append (omega arith) in
+    let a : out₁ ≡ laid at P out = e ∙ laid-head out at letter xs (omega arith) in
+    let b : out₂ ≡ laid at Q out = rw (f, a, p) (laid-laid out at P ys (omega arith)) in
+    (simp length-append (omega arith), rw (b, q) (laid-set out at Q 10 (simp length-append (omega arith))))

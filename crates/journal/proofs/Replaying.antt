@@ -9,11 +9,10 @@ use lib.Dec.{ltb}
 use lib.ListN.{length, take, drop, length-append, length-take}
 use lib.Seq.{drop-drop, take_all, take-take, length-take-le}
 use borrow.Author.Tests.{ltb-true, ltb-false, lt-ltb, le-ltb}
+use Rattle.std.specs.Prelude.{Result, Ok, Err}
 use Rattle.history.specs.Items.{padded}
 use Rattle.error.specs.Told.{number_of}
 use Rattle.error.specs.declared.Refusal.{Refusal}
-use Rattle.trip.specs.declared.Built.{Built}
-use Rattle.trip.specs.declared.Built.TheVariants.{Made, Refused}
 use Rattle.trip.specs.declared.Config.{Config}
 use Rattle.trip.specs.Settings.{built_of}
 use Rattle.breaker.specs.declared.Breaker.{Breaker}
@@ -25,7 +24,6 @@ use Rattle.lines.specs.Reads.{NoCall, NoHeader}
 use Rattle.lines.proofs.CallLines.{same-call}
 use Rattle.lines.proofs.HeaderLines.{same-header}
 use Rattle.journal.specs.Replay.{called, answer_line, malformed_line, builder_of, Replays, finished, call, malformed, Answers, headless, refused, headed, Journal, Kept, Replaying, ReadInto, ReplayingRead}
-use Rattle.journal.specs.declared.Replayed.TheVariants.{Written}
 use Rattle.journal.specs.Laid.{laid}
 use Rattle.journal.specs.Steps.{Ends}
 use Rattle.journal.proofs.Laid.{take-laid, drop-laid}
@@ -53,21 +51,21 @@ kept out out' out₀ end end' xs e l h k =
     rw (l, e) (drop-laid out end xs (omega arith) ∙ sym (drop-drop (length xs) end out) ∙ ap (λ (t : List ℕ). drop (length xs) t) k ∙ drop-drop (length xs) end out₀)
 
 -- ---- the loop
-module _ (more : Bool) (S : Settings) (st₀ : State) (input s : List ℕ) where
+module _ (more : Bool) (S : Settings) (st₀ : State) (input : List ℕ) where
   -- whatever answers the rest completes the answer
-  abbrev pub So : List ℕ → ℕ → ℕ → ℕ → State → Type 0
-  So out next end line st = (answers : List ℕ) (fin : State) → Replays more S line st (drop next s) answers fin → Replays more S 2 st₀ input (take end out ++ answers) fin
+  abbrev pub So : List ℕ → List ℕ → ℕ → ℕ → State → Type 0
+  So out rest end line st = (answers : List ℕ) (fin : State) → Replays more S line st rest answers fin → Replays more S 2 st₀ input (take end out ++ answers) fin
 
-  pub turn : (out out' : List ℕ) (next next' end end' line : ℕ) (st st' : State) (c : Call) (xs : List ℕ) → CallFits c → drop next s ≡ print_call c ++ drop next' s
+  pub turn : (out out' rest rest' : List ℕ) (end end' line : ℕ) (st st' : State) (c : Call) (xs : List ℕ) → CallFits c → rest ≡ print_call c ++ rest'
       → st' ≡ (called c S st).after → xs ≡ answer_line (called c S st).told st' → end' ≡ end + length xs → out' ≡ laid end xs out → end' ≤ length out
-      → So out next end line st → So out' next' end' (line + 1) st'
-  turn out out' next next' end end' line st st' c xs f e q a n l h so answers fin r =
+      → So out rest end line st → So out' rest' end' (line + 1) st'
+  turn out out' rest rest' end end' line st st' c xs f e q a n l h so answers fin r =
       rw (written out out' end end' xs n l h, append_assoc (take end out) xs answers)
-      (so (xs ++ answers) fin (call c (drop next' s) answers f e (rw (a, q) refl) (rw (add-one, q) at r)))
+      (so (xs ++ answers) fin (call c rest' answers f e (rw (a, q) refl) (rw (add-one, q) at r)))
 
-  pub last : (out out' : List ℕ) (next end end' line : ℕ) (st : State) (xs : List ℕ) → Replays more S line st (drop next s) xs st
-      → end' ≡ end + length xs → out' ≡ laid end xs out → end' ≤ length out → So out next end line st → Replays more S 2 st₀ input (take end' out') st
-  last out out' next end end' line st xs r n l h so = rw (written out out' end end' xs n l h) (so xs st r)
+  pub last : (out out' rest : List ℕ) (end end' line : ℕ) (st : State) (xs : List ℕ) → Replays more S line st rest xs st
+      → end' ≡ end + length xs → out' ≡ laid end xs out → end' ≤ length out → So out rest end line st → Replays more S 2 st₀ input (take end' out') st
+  last out out' rest end end' line st xs r n l h so = rw (written out out' end end' xs n l h) (so xs st r)
 
 -- ---- the whole answer, by what was written
 module _ (more : Bool) (input places out out' : List ℕ) (end : ℕ) (enough : end ≤ length out) (same : length out' ≡ length out) where
@@ -75,7 +73,7 @@ module _ (more : Bool) (input places out out' : List ℕ) (end : ℕ) (enough : 
   answers-headless k e l =
       (rw (written out out' 0 end (malformed_line 1) e l enough) (headless k), (omega arith, kept out out' out 0 end (malformed_line 1) e l enough refl))
 
-  pub answers-refused : (places' : List ℕ) (h : Header) (rest : List ℕ) (r : Refusal) → HeaderFits h → input ≡ print_header h ++ rest → (built_of (builder_of h) ≡ Refused r) × (places' ≡ places)
+  pub answers-refused : (places' : List ℕ) (h : Header) (rest : List ℕ) (r : Refusal) → HeaderFits h → input ≡ print_header h ++ rest → (built_of (builder_of h) ≡ Err r) × (places' ≡ places)
       → end ≡ 0 + length (print_line 69 (number_of r ∷ [])) → out' ≡ laid 0 (print_line 69 (number_of r ∷ [])) out → Answers more input places (take end out') places' × Kept end out out'
   answers-refused places' h rest r f i (b, s) e l =
       let xs = print_line 69 (number_of r ∷ []) in
@@ -113,7 +111,7 @@ whole-journal buffer whole n s o s' h e j =
     rw (← same_more (length buffer) whole h, ← take-take 65536 (length buffer) whole (omega arith)) (rw e at j)
 
 pub read_whole : (buffer : List ℕ) (n k : ℕ) (s s' out out' : List ℕ) (end : ℕ) → 65536 < length buffer → k ≡ min n (length buffer)
-    → Replaying (take k buffer) s s' out out' (Written end) → ReplayingRead buffer n s s' out out' end
+    → Replaying (take k buffer) s s' out out' (Ok end) → ReplayingRead buffer n s s' out out' end
 read_whole buffer n k s s' out out' end h e (room, places, journal, rest) =
     (λ whole w. whole-journal buffer whole n s (take end out') s' h w (rw (take-least n k buffer e) at journal), rest)
 
@@ -133,7 +131,7 @@ one-replay more S n st input x y e f (call c rest answers g i o r) (call c' rest
     (cc (m.0, a.0), a.1)
 
 -- a header is refused or makes a breaker
-not-both : (x : Built) (c : Config) (r : Refusal) → x ≡ Made c → x ≡ Refused r → ⊥
+not-both : (x : Result Config Refusal) (c : Config) (r : Refusal) → x ≡ Ok c → x ≡ Err r → ⊥
 not-both x c r p q = let z : ◌≡◌ {A = ℕ} 0 1 = cc in omega arith
 
 one : (more : Bool) (input s x y s' s'' : List ℕ) → Answers more input s x s' → Answers more input s y s'' → (x ≡ y) × (s' ≡ s'')
@@ -144,7 +142,7 @@ one more input s x y s' s'' (refused h rest r f e b) (headless k) = absurd (k h 
 one more input s x y s' s'' (headed h rest c end f e b r) (headless k) = absurd (k h rest f e)
 one more input s x y s' s'' (refused h rest r f e b) (refused h' rest' r' f' e' b') =
     let m = same-header h h' rest rest' f f' (sym e ∙ e') in
-    let z : built_of (builder_of h) ≡ Refused r' = rw m.0 b' in
+    let z : built_of (builder_of h) ≡ Err r' = rw m.0 b' in
     let q : r ≡ r' = cc in
     (rw q refl, refl)
 one more input s x y s' s'' (refused h rest r f e b) (headed h' rest' c' end' f' e' b' r') =
@@ -155,7 +153,7 @@ one more input s x y s' s'' (headed h rest c end f e b r) (refused h' rest' r' f
     absurd (not-both (built_of (builder_of h)) c r' b (rw m.0 b'))
 one more input s x y s' s'' (headed h rest c end f e b r) (headed h' rest' c' end' f' e' b' r') =
     let m = same-header h h' rest rest' f f' (sym e ∙ e') in
-    let z : built_of (builder_of h) ≡ Made c' = rw m.0 b' in
+    let z : built_of (builder_of h) ≡ Ok c' = rw m.0 b' in
     let q : c ≡ c' = cc in
     let a = one-replay more (settings c) 2 _ rest x y end end' r (rw (← q, ← m.1) at r') in
     (a.0, ap (λ (st : State). padded st.list) a.1)

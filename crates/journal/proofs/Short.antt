@@ -1,12 +1,12 @@
 -- How long the line is that answers a call: at most 91 bytes, where a call's line has at least 4. Assumes nothing.
 use Prim.Native.Nat.{ℕ, ◌+◌, ◌-◌, ◌≤◌, ◌<◌, ◌^◌}
-use mathlib.Core.Path.{◌≡◌, ap}
+use mathlib.Core.Path.{◌≡◌}
 use mathlib.Core.Bool.{Bool, true, false}
 use mathlib.Core.List.{List, ◌∷◌}
 use native.Mathlib.Omega.{arith}
 use lib.ListN.{length, length-append}
 use Rattle.error.specs.Choice.{bit}
-use Rattle.error.specs.Told.{refused}
+use Rattle.error.specs.Told.{Told, refused}
 use Rattle.error.specs.declared.Refusal.TheVariants.{Full}
 use Rattle.breaker.specs.declared.Ticket.{Ticket}
 use Rattle.breaker.specs.declared.Breaker.{Breaker}
@@ -19,9 +19,7 @@ use Rattle.breaker.proofs.Record.{sound→, shared→}
 use Rattle.lines.specs.declared.Call.{Call}
 use Rattle.lines.specs.declared.Call.TheVariants.{Admit, Success, Failure, Abort, Reset}
 use Rattle.lines.specs.Print.{print_decimal, print_fields}
-use Rattle.journal.specs.declared.Answer.{Answer}
 use Rattle.journal.specs.Replay.{ticket_of, called, five, answer_line}
-use Rattle.journal.specs.Steps.{line_by, Says}
 use Rattle.journal.proofs.Laid.{length-decimal}
 
 -- the fields that a line shows are within their widths, and the state is a digit
@@ -91,10 +89,8 @@ called-short (Abort t g p) S st = done-short _
 called-short (Reset t) S st = done-short _
 
 -- what a step answers
-pub step-short : (c : Call) (S : Settings) (st st' : State) (a : Answer) → st' ≡ (called c S st).after → Says a (called c S st).told → Shown st' → length (line_by a st') ≤ 91
-step-short c S st st' a e says h =
-    let o = called c S st in
-    omega (arith, ap length (says.1 st'), ap (λ (x : State). length (answer_line o.told x)) e, called-short c S st (rw e at h))
+pub step-short : (c : Call) (S : Settings) (st st' : State) (t : Told) → st' ≡ (called c S st).after → t ≡ (called c S st).told → Shown st' → length (answer_line t st') ≤ 91
+step-short c S st st' t e says h = rw (says, e) (called-short c S st (rw e at h))
 
 -- a sound record's fields, once they are within their widths
 pub shown : (b : Breaker) (s : List ℕ) → sound b s ≡ true → let st = state b s in

@@ -1,14 +1,15 @@
 -- "The archive journal": the answer to a whole journal, by the printing of its lines and the rules of the breaker. Definitions only.
-use Rattle.std.specs.Prelude.{ℕ, suc, ◌+◌, ◌*◌, ◌≤◌, ◌<◌, min, ◌≡◌, Bool, true, false, List, [], ◌∷◌, ◌++◌, eqb, ltb, length, take, drop, if◌then◌else◌}
+use Rattle.std.specs.Prelude.{ℕ, suc, ◌+◌, ◌*◌, ◌≤◌, ◌<◌, min, ◌≡◌, Bool, true, false, List, [], ◌∷◌, ◌++◌, eqb, ltb, length, take, drop, Result, Ok, Err, if◌then◌else◌}
 use Rattle.std.specs.Float.{binary64}
 use Rattle.std.specs.Float.Ieee.{of_bits}
 use Rattle.error.specs.Told.{Told, number_of}
 use Rattle.error.specs.declared.Refusal.{Refusal}
 use Rattle.error.specs.declared.Refusal.TheVariants.{Storage}
 use Rattle.history.specs.Items.{padded}
-use Rattle.trip.specs.declared.Built.TheVariants.{Made, Refused}
 use Rattle.trip.specs.declared.CircuitBreakerBuilder.{CircuitBreakerBuilder}
 use Rattle.trip.specs.declared.Config.{Config}
+use Rattle.trip.specs.declared.Duration.{Duration}
+use Rattle.trip.specs.declared.Trip.{Trip}
 use Rattle.trip.specs.declared.Trip.TheVariants as TripIs
 use Rattle.trip.specs.Settings.{built_of, of_millis}
 use Rattle.breaker.specs.declared.Ticket.{Ticket}
@@ -18,11 +19,12 @@ use Rattle.breaker.specs.Calls.{fresh, admission, settle, abort_as}
 use Rattle.lines.specs.declared.Call.{Call}
 use Rattle.lines.specs.declared.Call.TheVariants.{Admit, Success, Failure, Abort, Reset}
 use Rattle.lines.specs.declared.Header.{Header}
-use Rattle.lines.specs.declared.Header.TheVariants.{Consecutive, Ratio, Windowed}
+use Rattle.lines.specs.declared.HeaderPolicy.{HeaderPolicy}
+use Rattle.lines.specs.declared.HeaderPolicy.TheVariants.{Consecutive, Ratio, Windowed}
 use Rattle.lines.specs.Print.{print_line, print_header, HeaderFits, print_call, CallFits}
 use Rattle.lines.specs.Reads.{NoHeader, NoCall}
-use Rattle.journal.specs.declared.Replayed.{Replayed}
-use Rattle.journal.specs.declared.Replayed.TheVariants as ReplayedIs
+use Rattle.journal.specs.declared.NotReplayed.{NotReplayed}
+use Rattle.journal.specs.declared.NotReplayed.TheVariants as NotReplayedIs
 
 -- ---- a call of the journal, and the line that answers it
 
@@ -58,13 +60,16 @@ malformed_line n = print_line 69 (12 ∷ n ∷ [])
 
 -- ---- the settings of a header; times are in milliseconds
 
+abbrev pub trip_of : HeaderPolicy → Trip
+trip_of (Consecutive n) = TripIs.Consecutive n
+trip_of (Ratio window bits least) = TripIs.Ratio window (of_bits binary64 bits) least
+trip_of (Windowed failures period) = TripIs.Windowed failures (of_millis period)
+
+abbrev pub builder : Trip → Duration → ℕ → ℕ → CircuitBreakerBuilder
+builder trip cooldown trials required = record { trip = trip; cooldown = cooldown; half_open_trials = trials; half_open_required = required }
+
 abbrev pub builder_of : Header → CircuitBreakerBuilder
-builder_of (Consecutive n cooldown trials required) =
-    record { trip = TripIs.Consecutive n; cooldown = of_millis cooldown; half_open_trials = trials; half_open_required = required }
-builder_of (Ratio window bits least cooldown trials required) =
-    record { trip = TripIs.Ratio window (of_bits binary64 bits) least; cooldown = of_millis cooldown; half_open_trials = trials; half_open_required = required }
-builder_of (Windowed failures period cooldown trials required) =
-    record { trip = TripIs.Windowed failures (of_millis period); cooldown = of_millis cooldown; half_open_trials = trials; half_open_required = required }
+builder_of h = builder (trip_of h.policy) (of_millis h.cooldown_ms) h.trials h.required
 
 -- ---- the journal
 
@@ -83,10 +88,10 @@ pub data Replays (more : Bool) (s : Settings) : ℕ → State → List ℕ → L
 -- prints `E 2` and ends it"; both leave the storage as it was.
 pub data Answers (more : Bool) (input places : List ℕ) : List ℕ → List ℕ → Type 0 where
   headless : NoHeader input → Answers more input places (malformed_line 1) places
-  refused : (h : Header) (rest : List ℕ) (r : Refusal) → HeaderFits h → input ≡ print_header h ++ rest → built_of (builder_of h) ≡ Refused r
+  refused : (h : Header) (rest : List ℕ) (r : Refusal) → HeaderFits h → input ≡ print_header h ++ rest → built_of (builder_of h) ≡ Err r
       → Answers more input places (print_line 69 (number_of r ∷ [])) places
   headed : {output : List ℕ} (h : Header) (rest : List ℕ) (c : Config) (end : State) → HeaderFits h → input ≡ print_header h ++ rest
-      → built_of (builder_of h) ≡ Made c → Replays more (settings c) 2 fresh rest output end
+      → built_of (builder_of h) ≡ Ok c → Replays more (settings c) 2 fresh rest output end
       → Answers more input places output (padded end.list)
 
 -- "reads standard input up to 65,536 bytes"; "Longer input is malformed at the line that passes the limit."
@@ -104,10 +109,10 @@ abbrev pub Kept : ℕ → List ℕ → List ℕ → Type 0
 Kept n out out' = (n ≤ length out') × (drop n out' ≡ drop n out)
 
 -- input, then storage and buffer before and after
-abbrev pub Replaying : List ℕ → List ℕ → List ℕ → List ℕ → List ℕ → Replayed → Type 0
-Replaying input s s' out out' (ReplayedIs.Written n) = (room input ≤ length out) × (length s ≡ 4096) × Journal input s (take n out') s' × Kept n out out'
-Replaying input s s' out out' ReplayedIs.TooSmall = (length out < room input) × (s' ≡ s) × (out' ≡ out)
-Replaying input s s' out out' (ReplayedIs.Refused r) =
+abbrev pub Replaying : List ℕ → List ℕ → List ℕ → List ℕ → List ℕ → Result ℕ NotReplayed → Type 0
+Replaying input s s' out out' (Ok n) = (room input ≤ length out) × (length s ≡ 4096) × Journal input s (take n out') s' × Kept n out out'
+Replaying input s s' out out' (Err NotReplayedIs.TooSmall) = (length out < room input) × (s' ≡ s) × (out' ≡ out)
+Replaying input s s' out out' (Err (NotReplayedIs.Refused r)) =
     (room input ≤ length out) × (length s ≡ 4096 → ⊥) × (r ≡ Storage) × (s' ≡ s) × (out' ≡ out)
 
 -- A journal of any length, `whole`, was read into a buffer: the n bytes that came are its first, all of them or as many as the buffer holds.

@@ -1,13 +1,13 @@
-// The builder of a header, and a record to build in.
-ghost use Rattle.std.specs.Prelude.{◌≡◌};
+// The builder of a header.
+ghost use Rattle.std.specs.Prelude.{◌≡◌, ℕ};
 ghost use Rattle.std.specs.Float.{binary64};
 ghost use Rattle.std.specs.Float.Ieee.{of_bits};
 ghost use Rattle.trip.specs.Settings.{built_of, clamped_ratio};
-ghost use Rattle.journal.specs.Replay.{builder_of};
+ghost use Rattle.trip.specs.declared.Duration.{Duration};
+ghost use Rattle.journal.specs.Replay.{trip_of, builder, builder_of};
 
-use breaker::{Breaker, Shared, no_counts};
-use lines::Header;
-use trip::{CircuitBreakerBuilder, Config, Duration, INFINITY_BITS, SIGN_BIT, Trip};
+use lines::{Header, HeaderPolicy};
+use trip::{CircuitBreakerBuilder, Duration, INFINITY_BITS, SIGN_BIT, Trip};
 
 // The ratio of the given bits. A NaN's become 1.0 here, as normalising makes of it.
 fn ratio_of(bits: u64) -> f64
@@ -19,60 +19,39 @@ fn ratio_of(bits: u64) -> f64
     f64::from_bits(bits)
 }
 
-// A builder that makes what the header's would.
-pub(crate) fn builder_of(header: Header) -> CircuitBreakerBuilder
-    ensures { built_of result ≡ built_of (builder_of header) }
+// The policy of a header, to build with.
+fn trip_of(policy: HeaderPolicy) -> Trip
+    ensures { (d : Duration) (t r : ℕ) → built_of (builder (trip_of policy) d t r) ≡ built_of (builder result d t r) }
 {
-    match header {
-        Header::Consecutive(n, cooldown, trials, required) => CircuitBreakerBuilder {
-            trip: Trip::Consecutive(n),
-            cooldown: Duration::from_millis(cooldown),
-            half_open_trials: trials,
-            half_open_required: required,
+    match policy {
+        HeaderPolicy::Consecutive(n) => Trip::Consecutive(n),
+        HeaderPolicy::Ratio {
+            window,
+            bits,
+            min_calls,
+        } => Trip::Ratio {
+            window,
+            ratio: ratio_of(bits),
+            min_calls,
         },
-        Header::Ratio(window, bits, min_calls, cooldown, trials, required) =>
-            CircuitBreakerBuilder {
-                trip: Trip::Ratio {
-                    window,
-                    ratio: ratio_of(bits),
-                    min_calls,
-                },
-                cooldown: Duration::from_millis(cooldown),
-                half_open_trials: trials,
-                half_open_required: required,
-            },
-        Header::Windowed(failures, period, cooldown, trials, required) => CircuitBreakerBuilder {
-            trip: Trip::Windowed {
-                failures,
-                period: Duration::from_millis(period),
-            },
-            cooldown: Duration::from_millis(cooldown),
-            half_open_trials: trials,
-            half_open_required: required,
+        HeaderPolicy::Windowed {
+            failures,
+            period_ms,
+        } => Trip::Windowed {
+            failures,
+            period: Duration::from_millis(period_ms),
         },
     }
 }
 
-// A record of zeros.
-pub(crate) fn blank() -> Breaker {
-    Breaker {
-        config: Config {
-            kind: 0,
-            limit: 0,
-            ratio_bits: 0,
-            min_calls: 0,
-            period_ms: 0,
-            cooldown_ms: 0,
-            trials: 0,
-            required: 0,
-        },
-        shared: Shared {
-            state: 0,
-            generation: 0,
-            run: 0,
-            counts: no_counts(),
-            open_until: 0,
-            len: 0,
-        },
+// A builder that makes what the header's would.
+pub(crate) fn builder_of(header: Header) -> CircuitBreakerBuilder
+    ensures { built_of result ≡ built_of (builder_of header) }
+{
+    CircuitBreakerBuilder {
+        trip: trip_of(header.policy),
+        cooldown: Duration::from_millis(header.cooldown_ms),
+        half_open_trials: header.trials,
+        half_open_required: header.required,
     }
 }

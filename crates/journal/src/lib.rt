@@ -1,7 +1,6 @@
 // Replays an archive journal: from bytes to bytes.
 #![tactic(auto)]
 
-ghost use Rattle.std.specs.Prelude.{◌≡◌, min};
 ghost use Rattle.journal.specs.Replay.{Replaying, ReplayingRead};
 
 mod header;
@@ -9,7 +8,7 @@ mod run;
 mod step;
 mod write;
 
-use breaker::Breaker;
+use breaker::{Breaker, Delay, Ticket};
 use error::Refusal;
 use history::PLACES;
 use run::replay_all;
@@ -23,56 +22,46 @@ pub const READ: usize = LIMIT + 1;
 // Room for every answer.
 pub const ROOM: usize = 23 * LIMIT + 149;
 
-// What became of a journal: the length of its answer, a buffer that its answer might not fit, or a storage of other than 4,096 places.
-#[derive(Clone, Copy)]
-pub enum Replayed {
-    Written(usize),
+// Why a journal was not replayed: its answer might not fit the buffer, or the storage has other than 4,096 places.
+#[derive(Clone, Copy, Debug, PartialEq, Eq)]
+pub enum NotReplayed {
     TooSmall,
     Refused(Refusal),
 }
 
-// A line of the answer but for its last five numbers: its letter, and the two values before the five, of which some are skipped.
+// What a call is answered where it is not refused: a ticket, a delay, or nothing.
 #[derive(Clone, Copy)]
-struct Answer {
-    letter: u8,
-    skipped: usize,
-    first: u64,
-    second: u64,
+enum Reply {
+    Granted(Ticket),
+    Shed(Delay),
+    Done,
 }
 
 // What a call is answered, and the record after it.
 #[derive(Clone, Copy)]
 struct Stepped {
-    answer: Answer,
+    answer: Result<Reply, Refusal>,
     breaker: Breaker,
 }
 
-fn least(n: usize, most: usize) -> usize
-    ensures { result ≡ min n most }
-{
-    if n > most {
-        return most;
-    }
-    n
-}
-
-// The answer to the journal `input`, into `out`.
+// The answer to the journal `input`, into `out`; tells its length.
 // Ruled out: one that goes on after a malformed line; one that prints inflight for successes.
-pub fn replay(input: &[u8], list: &mut [u64], out: &mut [u8]) -> Replayed
+pub fn replay(input: &[u8], list: &mut [u64], out: &mut [u8]) -> Result<usize, NotReplayed>
     ensures { Replaying input.now list.old list.new out.old out.new result }
 {
-    let n = least(input.len(), LIMIT);
+    let n = input.len().min(LIMIT);
     if out.len() < 23 * n + 149 {
-        return Replayed::TooSmall;
+        return Err(NotReplayed::TooSmall);
     }
     if list.len() != PLACES {
-        return Replayed::Refused(Refusal::Storage);
+        return Err(NotReplayed::Refused(Refusal::Storage));
     }
     let more = n < input.len();
-    Replayed::Written(replay_all(&input[..n], more, list, out))
+    Ok(replay_all(&input[..n], more, list, out))
 }
 
 // The answer to a journal of any length, of which n bytes were read into `input`: all, or as many as it holds. There is always room.
+// (n beside the buffer: the n bytes alone would not show whether the buffer was full.)
 // Ruled out: an input of 65,536 bytes, where a longer journal looks like one that ends there; an output one byte smaller.
 pub fn replay_read(
     input: &[u8; READ],
@@ -82,11 +71,6 @@ pub fn replay_read(
 ) -> usize
     ensures { ReplayingRead input.now n list.old list.new out.old out.new result }
 {
-    let k = least(n, READ);
-    let bytes: &[u8] = input;
-    match replay(&bytes[..k], list, out) {
-        Replayed::Written(end) => end,
-        Replayed::TooSmall => 0,
-        Replayed::Refused(_) => 0,
-    }
+    let k = n.min(READ);
+    replay(&input[..k], list, out).unwrap()
 }

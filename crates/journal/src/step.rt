@@ -1,73 +1,30 @@
 // One call of the journal, made on the breaker.
-ghost use Rattle.std.specs.Prelude.{◌≡◌, true};
-ghost use Rattle.error.specs.Told.{refused};
+ghost use Rattle.std.specs.Prelude.{◌≡◌, true, List, ℕ};
+ghost use Rattle.error.specs.Told.{told_by};
 ghost use Rattle.breaker.specs.Record.{sound};
-ghost use Rattle.breaker.specs.Answers.{admission_told, finished_told};
-ghost use Rattle.journal.specs.Steps.{Says, StepsTo};
+ghost use Rattle.breaker.specs.Calls.{after, done_by_value};
+ghost use Rattle.journal.specs.Steps.{reply_told, StepsTo};
 
-use crate::{Answer, Stepped};
-use breaker::{Admission, Breaker, Finished, Settled, Ticket};
+use crate::{Reply, Stepped};
+use breaker::{Breaker, Ticket};
 use error::Refusal;
 use lines::Call;
 use outcomes::{close, settle_locked};
-use steps::{Entry, abort_locked, admit_as_locked};
+use steps::{abort_locked, admit_as_locked};
 
-// `E` and the number.
-fn refusal(why: Refusal) -> Answer
-    ensures { Says result (refused why) }
+// What a call that finishes comes to: nothing, or a refusal that leaves the breaker as it was.
+fn finished(call: Result<Breaker, Refusal>, breaker: Breaker) -> Stepped
+    ensures { (s : List ℕ) → after (told_by reply_told result.answer) result.breaker s ≡ done_by_value call breaker s }
 {
-    Answer {
-        letter: b'E',
-        skipped: 1,
-        first: 0,
-        second: error::number(why) as u64,
-    }
-}
-
-// `G` with generation and probe, `B` with the delay, or a refusal.
-fn admission(told: Admission) -> Answer
-    ensures { Says result (admission_told told) }
-{
-    match told {
-        Admission::Granted(t) => Answer {
-            letter: b'G',
-            skipped: 0,
-            first: t.generation,
-            second: if t.probe { 1 } else { 0 },
+    match call {
+        Ok(next) => Stepped {
+            answer: Ok(Reply::Done),
+            breaker: next,
         },
-        Admission::Shed(d) => Answer {
-            letter: b'B',
-            skipped: 1,
-            first: 0,
-            second: d.ms,
+        Err(r) => Stepped {
+            answer: Err(r),
+            breaker,
         },
-        Admission::Refused(r) => refusal(r),
-    }
-}
-
-// `N`, or a refusal.
-fn finish(told: Finished) -> Answer
-    ensures { Says result (finished_told told) }
-{
-    match told {
-        Finished::Done => Answer {
-            letter: b'N',
-            skipped: 2,
-            first: 0,
-            second: 0,
-        },
-        Finished::Refused(r) => refusal(r),
-    }
-}
-
-fn finished(call: Settled) -> Stepped
-    ensures { (result.breaker ≡ call.breaker) × Says result.answer (finished_told call.answer) }
-{
-    let told = call.answer;
-    let breaker = call.breaker;
-    Stepped {
-        answer: finish(told),
-        breaker,
     }
 }
 
@@ -77,36 +34,42 @@ pub(crate) fn step(breaker: Breaker, list: &mut [u64], call: Call) -> Stepped
     ensures { StepsTo call breaker list.old result list.new }
 {
     match call {
-        Call::Admit(reading) => match admit_as_locked(breaker, reading, false) {
-            Entry::Shed(d) => Stepped {
-                answer: admission(Admission::Shed(d)),
+        Call::Admit { reading } => match admit_as_locked(breaker, reading, false) {
+            Err(d) => Stepped {
+                answer: Ok(Reply::Shed(d)),
                 breaker,
             },
-            Entry::Granted(t, next) => Stepped {
-                answer: admission(Admission::Granted(t)),
-                breaker: next,
+            Ok(entered) => Stepped {
+                answer: Ok(Reply::Granted(entered.answer)),
+                breaker: entered.breaker,
             },
         },
-        Call::Success(reading, generation, probe) => finished(settle_locked(
-            breaker,
-            list,
+        Call::Success {
             reading,
-            Ticket { generation, probe },
-            true,
-        )),
-        Call::Failure(reading, generation, probe) => finished(settle_locked(
+            generation,
+            probe,
+        } => finished(
+            settle_locked(breaker, list, reading, Ticket { generation, probe }, true),
             breaker,
-            list,
+        ),
+        Call::Failure {
             reading,
-            Ticket { generation, probe },
-            false,
-        )),
-        Call::Abort(_, generation, probe) => Stepped {
-            answer: finish(Finished::Done),
+            generation,
+            probe,
+        } => finished(
+            settle_locked(breaker, list, reading, Ticket { generation, probe }, false),
+            breaker,
+        ),
+        Call::Abort {
+            generation,
+            probe,
+            ..
+        } => Stepped {
+            answer: Ok(Reply::Done),
             breaker: abort_locked(breaker, Ticket { generation, probe }, false),
         },
-        Call::Reset(_) => Stepped {
-            answer: finish(Finished::Done),
+        Call::Reset { .. } => Stepped {
+            answer: Ok(Reply::Done),
             breaker: close(breaker, list),
         },
     }

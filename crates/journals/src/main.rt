@@ -3,20 +3,13 @@
 // oracle (`journal cases` of oracle/: the unchanged Rust for every state change); stdout has their number, and 0 that differ.
 #![tactic(auto)]
 
-ghost use Rattle.std.specs.Prelude.{◌≡◌, ◌≤◌, ◌<◌, min, length};
+ghost use Rattle.std.specs.Prelude.{◌<◌, IfSome, length};
 
 use history::PLACES;
-use journal::{ROOM, Replayed};
+use journal::ROOM;
 
-// Where a journal begins, where its expected output does, and where that ends.
-#[derive(Clone, Copy)]
-struct Case {
-    journal: usize,
-    expected: usize,
-    end: usize,
-}
-
-// Room for the container. One that does not fit is cut, and its last journal differs.
+// Room for the container. One that does not fit is cut, and what is left of its last journal counts as one that differs.
+// (Functions of their own: where a slice is cut, a proof with so many zeros written out runs out of stack.)
 fn input_buffer() -> [u8; 2700000] {
     [0; 2700000]
 }
@@ -25,117 +18,65 @@ fn output_buffer() -> [u8; ROOM] {
     [0; ROOM]
 }
 
-fn places() -> [u64; PLACES] {
-    [0; PLACES]
+// A journal, and the output expected of it.
+#[derive(Clone, Copy)]
+struct Case<'a> {
+    journal: &'a [u8],
+    expected: &'a [u8],
 }
 
-// The place after the next byte `stop`, or the end.
-fn after(s: &[u8], at: usize, stop: u8) -> usize
-    requires { at ≤ length s.now }
-    ensures { (at ≤ result) × (result ≤ length s.now) × (at < length s.now → at < result) }
-{
-    let mut i = at;
-    while i < s.len() {
-        if s[i] == stop {
-            return i + 1;
-        }
-        i += 1;
-    }
-    i
+// The lengths that a line tells: of its journal, and of the expected output.
+fn lengths(line: &[u8]) -> Option<(usize, usize)> {
+    let mut fields = str::from_utf8(line).ok()?.split(' ').skip(2);
+    let journal = fields.next()?.parse().ok()?;
+    let expected = fields.next()?.parse().ok()?;
+    Some((journal, expected))
 }
 
-// The decimal at `at`, as far as it stays below 10,000,000.
-fn number(s: &[u8], at: usize) -> usize
-    ensures { result < 10000000 }
+// The journal whose line stands at the front, and what is left.
+fn split_case(s: &[u8]) -> Option<(Case<'_>, &[u8])>
+    ensures { IfSome result (λ p. length p.1.now < length s.now) }
 {
-    let mut n: usize = 0;
-    let mut i = at;
-    while i < s.len() {
-        let b = s[i];
-        if b < b'0' {
-            break;
-        }
-        if b > b'9' {
-            break;
-        }
-        if n >= 1_000_000 {
-            break;
-        }
-        n = n * 10 + (b - b'0') as usize;
-        i += 1;
-    }
-    n
-}
-
-fn at_most(n: usize, most: usize) -> usize
-    ensures { result ≡ min n most }
-{
-    if n < most {
-        return n;
-    }
-    most
-}
-
-// The journal whose line stands at `at`.
-fn case_at(s: &[u8], at: usize) -> Case
-    requires { at < length s.now }
-    ensures { (at < result.journal) × (result.journal ≤ result.expected) × (result.expected ≤ result.end) × (result.end ≤ length s.now) }
-{
-    let first = after(s, after(s, at, b' '), b' ');
-    let second = after(s, first, b' ');
-    let journal = after(s, second, b'\n');
-    let expected = at_most(journal + number(s, first), s.len());
-    let end = at_most(expected + number(s, second), s.len());
-    Case {
-        journal,
-        expected,
-        end,
-    }
+    let feed = s.iter().position(|b| *b == b'\n')?;
+    let (n, m) = lengths(&s[..feed])?;
+    let (journal, rest) = s[feed + 1..].split_at_checked(n)?;
+    let (expected, rest) = rest.split_at_checked(m)?;
+    Some((Case { journal, expected }, rest))
 }
 
 // Whether the journal's answer is the expected one.
-fn agrees(journal: &[u8], expected: &[u8], list: &mut [u64], out: &mut [u8]) -> bool {
-    match journal::replay(journal, list, out) {
-        Replayed::Written(n) => &out[..n] == expected,
-        Replayed::TooSmall => false,
-        Replayed::Refused(_) => false,
+fn agrees(case: Case, list: &mut [u64], out: &mut [u8]) -> bool {
+    match journal::replay(case.journal, list, out) {
+        Ok(n) => &out[..n] == case.expected,
+        Err(_) => false,
     }
 }
 
-// A name and a number on a line.
-fn show(rt: &HostRuntime, name: &str, n: u64) {
-    let _ = println!(rt; "{name} {n}");
-}
-
-// Replays all of a container.
+// Replays all of a container. What is no journal counts as one that differs.
 fn replay_all(rt: &HostRuntime, s: &[u8], list: &mut [u64], out: &mut [u8]) {
-    let mut at: usize = 0;
+    let mut rest = s;
     let mut journals: u64 = 0;
     let mut differ: u64 = 0;
-    while at < s.len() {
-        let case = case_at(s, at);
-        let start = case.journal;
-        let expected = case.expected;
-        let end = case.end;
+    while let Some((case, after)) = split_case(rest) {
         journals += 1;
-        if !agrees(&s[start..expected], &s[expected..end], list, out) {
+        if !agrees(case, list, out) {
             differ += 1;
-            show(rt, "difference in journal", journals);
+            let _ = println!(rt; "difference in journal {journals}");
         }
-        at = end;
+        rest = after;
     }
-    show(rt, "journals", journals);
-    show(rt, "differ", differ);
-}
-
-fn run(rt: &HostRuntime, s: &[u8]) {
-    let mut list = places();
-    let mut out = output_buffer();
-    replay_all(rt, s, &mut list, &mut out);
+    if !rest.is_empty() {
+        differ += 1;
+        let _ = println!(rt; "no journal after {journals}");
+    }
+    let _ = println!(rt; "journals {journals}");
+    let _ = println!(rt; "differ {differ}");
 }
 
 fn main(rt: HostRuntime) {
     let mut input = input_buffer();
     let n = input::read_full(&mut rt.stdin(), &mut input);
-    run(&rt, &input[..n]);
+    let mut list = [0; PLACES];
+    let mut out = output_buffer();
+    replay_all(&rt, &input[..n], &mut list, &mut out);
 }

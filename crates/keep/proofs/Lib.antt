@@ -1,3 +1,2 @@
 -- Laws of waits that keep their grant.
-pub mod Holds
 pub mod Bounded

@@ -1,80 +1,58 @@
 // The calls on a wait that keeps its grant: one turn, a run of turns, drop. Each tests what it is handed.
 ghost use Rattle.std.specs.Prelude.{◌≡◌};
-ghost use Rattle.wait.specs.Manner.{dropped, tell_drop, tell_turn, turned};
-ghost use Rattle.wait.specs.Run.{runs, tell_run};
+ghost use Rattle.wait.specs.Manner.{dropped, turned};
+ghost use Rattle.wait.specs.Run.{runs};
 ghost use Rattle.keep.specs.Keep.{keep};
 
-use crate::moves::{has_ended, is_holding, moves, test};
+use crate::moves::{Tested, has_ended, is_holding, is_known};
 use error::Refusal;
 use wait::{
-    Dropping, Move, Observed, Ran, Running, TURN_WIDTH, TurnTest, Turned, Turning, Wait, drop_as,
-    ended_wait, ran_as, stop, turn_at,
+    Dropping, Observed, Ran, Running, TURN_WIDTH, Turned, Turning, Wait, drop_as, in_order, ran_as,
+    stop,
 };
 
 // One turn of a wait. A refused one leaves the wait; one that ends it leaves an ended wait.
 // Ruled out: a deadline before the first look; a give-back on a plain retry.
-pub fn turn(wait: Wait, turn: Observed) -> Turning
-    ensures { tell_turn result ≡ tell_turn (turned keep wait turn) }
+#[tactic(auto, unfolding(wait::specs::Manner::turned))]
+pub fn turn(wait: Wait, turn: Observed) -> Result<Turning, Refusal>
+    ensures { result ≡ turned keep wait turn }
 {
-    let tested = test(wait, turn);
-    if let TurnTest::Fails(r) = tested {
-        return Turning {
-            answer: Turned::Refused(r),
-            wait,
-        };
-    }
-    let step = moves(wait, turn);
-    match step {
-        Move::Goes(act, next) => Turning {
-            answer: Turned::Next(act),
-            wait: next,
-        },
-        Move::Ends(ending) => Turning {
-            answer: Turned::Ends(ending),
-            wait: ended_wait(),
-        },
-    }
+    in_order(has_ended(wait), is_known(turn.kind), wait, turn)?;
+    Ok(Turning::from(Tested { wait, turn }.moves()))
 }
 
 // Takes turns until the wait ends, one is refused, or the limit or the turns are used up. A turn past the limit is not read.
 // Ruled out: a count that isn't that of the rules; a run that reads past the end.
+#[tactic(auto, using(wait::proofs::Walks::run_steps), unfolding(wait::specs::Run::runs, wait::specs::Run::stops))]
 pub fn run(wait: Wait, turns: &[u64], limit: u64) -> Running
-    ensures { tell_run result ≡ tell_run (runs keep wait turns.now limit) }
+    ensures { result ≡ runs keep wait turns.now limit }
 {
-    if turns.len() % TURN_WIDTH != 0 {
-        return ran_as(Ran::Refused(Refusal::Storage), 0, wait);
+    let (groups, rest) = turns.as_chunks::<TURN_WIDTH>();
+    if !rest.is_empty() {
+        return ran_as(Err(Refusal::Storage), 0, wait);
     }
-    let mut at: usize = 0;
-    let mut taken: u64 = 0;
+    let allowed = &groups[..(limit as usize).min(groups.len())];
     let mut reached = wait;
-    while at < turns.len() {
-        if taken >= limit {
-            return ran_as(stop(has_ended(reached), reached), taken, reached);
+    for (taken, numbers) in allowed.iter().enumerate() {
+        match turn(reached, Observed::from(*numbers)) {
+            Err(refusal) => return ran_as(Err(refusal), taken as u64, reached),
+            Ok(turned) => match turned.answer {
+                Turned::Next(_) => reached = turned.wait,
+                Turned::Ends(ending) => {
+                    return ran_as(Ok(Ran::Ends(ending)), taken as u64 + 1, turned.wait);
+                }
+            },
         }
-        let turn = turn_at(turns, at);
-        let tested = test(reached, turn);
-        if let TurnTest::Fails(r) = tested {
-            return ran_as(Ran::Refused(r), taken, reached);
-        }
-        let step = moves(reached, turn);
-        match step {
-            Move::Goes(_act, next) => {
-                reached = next;
-            }
-            Move::Ends(ending) => {
-                return ran_as(Ran::Ends(ending), taken + 1, ended_wait());
-            }
-        }
-        at += TURN_WIDTH;
-        taken += 1;
     }
-    ran_as(stop(has_ended(reached), reached), taken, reached)
+    let last = stop(has_ended(reached), reached);
+    ran_as(last, allowed.len() as u64, reached)
 }
 
 // Ends a wait before it has ended (`Drop` of the Rust's `Release`): a held grant is to be given back.
 // Ruled out: one that keeps a held grant; one that gives back for a wait that holds none.
-pub fn drop_wait(wait: Wait) -> Dropping
-    ensures { tell_drop result ≡ tell_drop (dropped keep wait) }
+#[tactic(auto, unfolding(wait::specs::Manner::dropped))]
+pub fn drop_wait(wait: Wait) -> Result<Dropping, Refusal>
+    ensures { result ≡ dropped keep wait }
 {
     drop_as(has_ended(wait), is_holding(wait), wait)
 }

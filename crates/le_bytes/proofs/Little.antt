@@ -1,12 +1,14 @@
 -- Laws of numbers in bytes, over any width: there and back. Assumes nothing.
-use mathlib.Core.Path.{◌≡◌, refl, sym, ap, ◌∙◌}
-use mathlib.Core.List.{List, [], ◌∷◌, ◌++◌}
+use mathlib.Core.Path.{◌≡◌, refl, ap}
+use mathlib.Core.List.{List, [], ◌∷◌, ◌++◌, append_assoc, append-nil}
 use Prim.Native.Nat.{ℕ, zero, suc, ◌+◌, ◌-◌, ◌*◌, ◌/◌, ◌%◌, ◌^◌, ◌<◌, ◌≤◌}
-use native.Mathlib.Nat.{pow-suc, pow-le-pow_right}
+use native.Mathlib.Nat.{pow-suc}
 use native.Mathlib.Numerals.{add-one}
 use native.Mathlib.Omega.{arith}
-use lib.ListN.{length, get_or, take, drop, length-drop, drop_of_length-le}
-use lib.Seq.{drop-cons, get_or-take, get_or-drop, length-take-le}
+use lib.ListN.{length, get_or, set, take, drop, replicate}
+use lib.Seq.{drop-cons, take-suc-set, take_all}
+use Rattle.std.proofs.Common.{w64}
+use Rattle.std.specs.Int.{from_le_bytes}
 use Rattle.le_bytes.specs.Bytes.{bytes, number, Bytes}
 
 pub length-bytes : (k n : ℕ) → length (bytes k n) ≡ k
@@ -64,35 +66,28 @@ bytes_drop (suc n) (b ∷ bs) h = bytes_drop n bs h.1
 pub front : (s : List ℕ) (i : ℕ) → i < length s → drop i s ≡ get_or s i 0 ∷ drop (i + 1) s
 front s i h = rw add-one (drop-cons s i 0 h)
 
-pub number-front : (s : List ℕ) (i : ℕ) → i < length s → number (drop i s) ≡ get_or s i 0 + 256 * number (drop (i + 1) s)
+-- ---- at most eight bytes, with zeros behind them, are read at once
+pub number-read : (s : List ℕ) → length s ≤ 8 → from_le_bytes w64 (s ++ drop (length s) (replicate 8 0)) ≡ number s
 unfolding number
-number-front s i h = rw (front s i h)
+number-read [] l = omega arith
+number-read (a ∷ []) l = omega arith
+number-read (a ∷ b ∷ []) l = omega arith
+number-read (a ∷ b ∷ c ∷ []) l = omega arith
+number-read (a ∷ b ∷ c ∷ d ∷ []) l = omega arith
+number-read (a ∷ b ∷ c ∷ d ∷ e ∷ []) l = omega arith
+number-read (a ∷ b ∷ c ∷ d ∷ e ∷ f ∷ []) l = omega arith
+number-read (a ∷ b ∷ c ∷ d ∷ e ∷ f ∷ g ∷ []) l = omega arith
+number-read (a ∷ b ∷ c ∷ d ∷ e ∷ f ∷ g ∷ h ∷ []) l = omega arith
+number-read (a ∷ b ∷ c ∷ d ∷ e ∷ f ∷ g ∷ h ∷ i ∷ s) l = absurd (omega arith)
 
--- ---- a turn of the reading loop: n is the number of the bytes from i on
-module _ (s : List ℕ) (at k : ℕ) (l : at + k ≤ length s) where
-  pub length_part : length (take k (drop at s)) ≡ k
-  length_part = length-take-le k (drop at s) (omega (arith, length-drop at s))
+-- ---- a turn of the writing loop
+pub bytes-turn : (s : List ℕ) (i n : ℕ) → i < length s → take (i + 1) (set s i (n % 256)) ++ bytes (length s - (i + 1)) (n / 256) ≡ take i s ++ bytes (length s - i) n
+unfolding bytes
+bytes-turn s i n h =
+    let k : length s - i ≡ suc (length s - (i + 1)) = omega arith in
+    let t : take (i + 1) (set s i (n % 256)) ≡ take i s ++ (n % 256 ∷ []) = rw add-one (take-suc-set s i (n % 256) h) in
+    rw (t, k, append_assoc)
 
-  pub number_more : (i n : ℕ) → 0 < i → i ≤ k → n ≡ number (drop i (take k (drop at s)))
-      → n * 256 + get_or s (at + (i - 1)) 0 ≡ number (drop (i - 1) (take k (drop at s)))
-  number_more i n h m e =
-      let j : i - 1 + 1 ≡ i = omega arith in
-      let d = number-front (take k (drop at s)) (i - 1) (omega (arith, length_part)) in
-      let g : get_or (take k (drop at s)) (i - 1) 0 ≡ get_or s (at + (i - 1)) 0 = get_or-take k (drop at s) (i - 1) 0 (omega arith) ∙ get_or-drop at s (i - 1) 0 in
-      let f : number (drop (i - 1 + 1) (take k (drop at s))) ≡ n = ap (λ (j : ℕ). number (drop j (take k (drop at s)))) j ∙ sym e in
-      omega arith
-
-  pub number_fits : (i : ℕ) → k ≤ 8 → Bytes s → number (drop i (take k (drop at s))) < 2 ^ 64
-  number_fits i h b =
-      let part = take k (drop at s) in
-      let n = number-below (drop i part) (bytes_drop i part (bytes_take k (drop at s) (bytes_drop at s b))) in
-      let e : length (drop i part) ≤ 8 = omega (arith, length-drop i part, length_part) in
-      let p : 256 ^ length (drop i part) ≤ 256 ^ 8 = pow-le-pow_right {n = 256} (omega arith) {i = length (drop i part)} {j = 8} e in
-      omega arith
-
-  pub number-none : number (drop k (take k (drop at s))) ≡ 0
-  unfolding number
-  number-none = rw (drop_of_length-le (take k (drop at s)) {i = k} (omega (arith, length_part)))
-
-  pub number-part : Bytes s → number (take k (drop at s)) < 256 ^ k
-  number-part b = rw length_part at (number-below (take k (drop at s)) (bytes_take k (drop at s) (bytes_drop at s b)))
+pub bytes-end : (s : List ℕ) (i n : ℕ) → length s ≤ i → take i s ++ bytes (length s - i) n ≡ s
+unfolding bytes
+bytes-end s i n h = let k : length s - i ≡ zero = omega arith in rw (k, append-nil, take_all i s h)

@@ -1,18 +1,17 @@
 -- Laws of numbers one after another, over any widths: there and back. Assumes nothing.
 use mathlib.Core.Path.{◌≡◌, refl, sym, ap, ◌∙◌}
-use mathlib.Core.Bool.{false}
 use mathlib.Core.List.{List, [], ◌∷◌, ◌++◌, append_assoc, append-nil}
-use Prim.Native.Nat.{ℕ, zero, suc, ◌+◌, ◌*◌, ◌<◌, ◌≤◌}
-use native.Mathlib.Nat.{suc-mul, zero-mul, pow-le-pow_right}
+use Prim.Native.Nat.{ℕ, zero, suc, ◌+◌, ◌-◌, ◌*◌, ◌<◌, ◌≤◌}
+use native.Mathlib.Nat.{suc-mul, zero-mul, mul-le-mul, pow-le-pow_right}
 use native.Mathlib.Numerals.{add-one}
 use native.Mathlib.Omega.{arith}
-use lib.ListN.{length, get_or, set, take, drop, replicate, length-append, length-drop, length-replicate, get_or-replicate, drop_of_length-le}
-use lib.Dec.{leb}
-use borrow.Author.Tests.{le-leb, lt-leb}
-use lib.Seq.{take_at, drop_at, take_all, length-take-le, take-add, take-suc-set, drop-drop}
+use lib.ListN.{length, get_or, set, take, drop, replicate, length-append, length-drop, drop_of_length-le}
+use borrow.Author.Tests.{le-leb}
+use lib.Seq.{take_at, drop_at, take_all, take-take, length-take-le, take-add, take-suc-set, drop-drop}
+use Rattle.std.proofs.lemmas.List.{drop-take}
 use Rattle.le_bytes.specs.Bytes.{bytes, number, encoded, decoded, room, Fit, Bytes}
 use Rattle.le_bytes.specs.Bytes.{written, put_items}
-use Rattle.le_bytes.proofs.Written.{written_after, written-nil, put_in, put-out}
+use Rattle.le_bytes.proofs.Written.{written_after, written-nil, put_in}
 use Rattle.le_bytes.proofs.Little.{front, length-bytes, bytes-bytes, number-bytes, bytes-number, number-below, bytes-append, bytes_take, bytes_drop}
 
 pub length-encoded : (ws vs : List ℕ) → Fit ws vs → length (encoded ws vs) ≡ room ws
@@ -78,10 +77,6 @@ pub room-front : (ws : List ℕ) (i : ℕ) → i < length ws → room (drop i ws
 unfolding room
 room-front ws i h = rw (front ws i h)
 
-pub room-end : (ws : List ℕ) (i : ℕ) → length ws ≤ i → room (drop i ws) ≡ 0
-unfolding room
-room-end ws i h = rw (drop_of_length-le ws {i = i} h)
-
 pub read-turn : (ws s out : List ℕ) (i next v : ℕ) → i < length ws → i < length out → v ≡ number (take (get_or ws i 0) (drop next s))
     → take (i + 1) (set out i v) ++ decoded (drop (i + 1) ws) (drop (next + get_or ws i 0) s) ≡ take i out ++ decoded (drop i ws) (drop next s)
 unfolding decoded
@@ -104,29 +99,51 @@ pub write-end : (ws vs out : List ℕ) (i next : ℕ) → length ws ≤ i → wr
 unfolding encoded
 write-end ws vs out i next h = rw (drop_of_length-le ws {i = i} h) (sym (written-nil out next))
 
--- ---- the same at equal widths
-pub same_at : (n w i : ℕ) → i < n → get_or (replicate n w) i 0 ≡ w
-same_at n w i h = get_or-replicate n i w 0 h
+-- ---- a turn of a loop over numbers of one width: i of them are behind it
+pub rest-less : (n w i : ℕ) (s : List ℕ) → i < n → length s ≡ (n - i) * w → length (drop w s) ≡ (n - (i + 1)) * w
+rest-less n w i s h l =
+    let k : n - i ≡ suc (n - (i + 1)) = omega arith in
+    let m : length s ≡ (n - (i + 1)) * w + w = l ∙ ap (λ (x : ℕ). x * w) k ∙ suc-mul (n - (i + 1)) w in
+    length-drop w s ∙ (omega arith)
 
-pub same-front : (n w i : ℕ) → i < n → room (drop i (replicate n w)) ≡ w + room (drop (i + 1) (replicate n w))
-same-front n w i h =
-    room-front (replicate n w) i (omega (arith, length-replicate n w))
-    ∙ ap (λ (v : ℕ). v + room (drop (i + 1) (replicate n w))) (same_at n w i h)
+pub items-turn : (w : ℕ) (s out : List ℕ) (i v : ℕ) → i < length out → v ≡ number (take w s)
+    → take (i + 1) (set out i v) ++ decoded (replicate (length out - (i + 1)) w) (drop w s) ≡ take i out ++ decoded (replicate (length out - i) w) s
+unfolding decoded
+items-turn w s out i v h e =
+    let k : length out - i ≡ suc (length out - (i + 1)) = omega arith in
+    let t : take (i + 1) (set out i v) ≡ take i out ++ (v ∷ []) = rw add-one (take-suc-set out i v h) in
+    rw (t, k, append_assoc, e)
 
-pub same_turn : (n w : ℕ) (s out : List ℕ) (i next v : ℕ) → i < n → i < length out → v ≡ number (take w (drop next s))
-    → take (i + 1) (set out i v) ++ decoded (drop (i + 1) (replicate n w)) (drop (next + w) s) ≡ take i out ++ decoded (drop i (replicate n w)) (drop next s)
-same_turn n w s out i next v h l e =
-    let g = same_at n w i h in
-    let a : v ≡ number (take (get_or (replicate n w) i 0) (drop next s)) = e ∙ ap (λ (w : ℕ). number (take w (drop next s))) (sym g) in
-    ap (λ (x : ℕ). take (i + 1) (set out i v) ++ decoded (drop (i + 1) (replicate n w)) (drop (next + x) s)) (sym g)
-    ∙ read-turn (replicate n w) s out i next v (omega (arith, length-replicate n w)) l a
+-- numbers read of so many bytes as they take
+pub decoded-part : (n w k : ℕ) (s : List ℕ) → k ≡ n * w → decoded (replicate n w) (take k s) ≡ decoded (replicate n w) s
+unfolding decoded
+decoded-part zero w k s e = refl
+decoded-part (suc n) w k s e =
+    let m : k ≡ w + n * w = e ∙ suc-mul n w ∙ (omega arith) in
+    rw (m, take-take w (w + n * w) s (omega arith), drop-take w (n * w) s) (ap (λ (vs : List ℕ). number (take w s) ∷ vs) (decoded-part n w (n * w) (drop w s) refl))
 
-pub same-put : (w : ℕ) (vs out : List ℕ) (i next : ℕ) → i < length vs → next + w ≤ length out
-    → written (next + w) (encoded (drop (i + 1) (replicate (length vs) w)) (drop (i + 1) vs)) (written next (bytes w (get_or vs i 0)) out) ≡ written next (encoded (drop i (replicate (length vs) w)) (drop i vs)) out
-same-put w vs out i next h l =
-    let g = same_at (length vs) w i h in
-    ap (λ (x : ℕ). written (next + x) (encoded (drop (i + 1) (replicate (length vs) w)) (drop (i + 1) vs)) (written next (bytes x (get_or vs i 0)) out)) (sym g)
-    ∙ write-turn (replicate (length vs) w) vs out i next (omega (arith, length-replicate (length vs) w)) h (omega (arith, g))
+pub items-end : (w : ℕ) (s out : List ℕ) (i : ℕ) → length out ≤ i → take i out ++ decoded (replicate (length out - i) w) s ≡ out
+unfolding decoded
+items-end w s out i h = let k : length out - i ≡ zero = omega arith in rw (k, append-nil, take_all i out h)
+
+-- b is what is written of one of them, in its place
+pub put-turn : (w : ℕ) (vs out b more : List ℕ) (i : ℕ) → i < length vs → length out ≡ length vs * w → b ≡ bytes (length (take (i * w + w - i * w) (drop (i * w) out))) (get_or vs i 0)
+    → take ((i + 1) * w) (take (i * w) out ++ (b ++ more)) ++ encoded (replicate (length vs - (i + 1)) w) (drop (i + 1) vs) ≡ take (i * w) out ++ encoded (replicate (length vs - i) w) (drop i vs)
+unfolding encoded
+put-turn w vs out b more i h l e =
+    let k : length vs - i ≡ suc (length vs - (i + 1)) = omega arith in
+    let m : (i + 1) * w ≤ length vs * w = mul-le-mul {n₁ = i + 1} {m₁ = w} {n₂ = length vs} {m₂ = w} (omega arith) (omega arith) in
+    let p : length (take (i * w + w - i * w) (drop (i * w) out)) ≡ w = length-take-le (i * w + w - i * w) (drop (i * w) out) (omega (arith, length-drop (i * w) out)) ∙ (omega arith) in
+    let f : b ≡ bytes w (get_or vs i 0) = rw p at e in
+    let n : length (take (i * w) out ++ b) ≡ (i + 1) * w = simp (length-append, length-take-le (i * w) out (omega arith), f, length-bytes) (omega arith) in
+    rw (← append_assoc (take (i * w) out) b more, take_at (take (i * w) out ++ b) more ((i + 1) * w) n, k, front vs i h, f, append_assoc)
+
+pub put-end : (w : ℕ) (vs out : List ℕ) (i : ℕ) → length vs ≤ i → length out ≡ length vs * w → i ≤ length vs → take (i * w) out ++ encoded (replicate (length vs - i) w) (drop i vs) ≡ out
+unfolding encoded
+put-end w vs out i h l m =
+    let e : i ≡ length vs = omega arith in
+    let k : length vs - length vs ≡ zero = omega arith in
+    rw (e, k, append-nil, take_all (length vs * w) out (omega arith))
 
 -- ---- lists of widths and of numbers that fit
 pub fit_length : (ws vs : List ℕ) → Fit ws vs → length vs ≡ length ws
@@ -167,9 +184,3 @@ module _ (at w : ℕ) (vs s : List ℕ) where
 
   pub put-items-in : w ≤ 8 → at + length vs * w ≤ length s → written at (encoded (replicate (length vs) w) vs) s ≡ put_items at w vs s
   put-items-in l h = simp (le-leb w 8 l) (put_in at (encoded (replicate (length vs) w) vs) s (omega (arith, length-items)))
-
-  pub put-items-wide : 8 < w → s ≡ put_items at w vs s
-  put-items-wide l = simp (lt-leb w 8 l)
-
-  pub put-items-out : w ≤ 8 → leb (at + length vs * w) (length s) ≡ false → s ≡ put_items at w vs s
-  put-items-out l e = simp (le-leb w 8 l) (put-out at (encoded (replicate (length vs) w) vs) s (ap (λ (n : ℕ). leb (at + n) (length s)) length-items ∙ e))

@@ -1,43 +1,30 @@
 // Many bytes at once: numbers of one width, a copy, zeros.
-ghost use Rattle.std.specs.Prelude.{◌≡◌, ◌+◌, ◌*◌, ◌≤◌, length, drop, replicate};
-ghost use Rattle.le_bytes.specs.Bytes.{encoded, decoded, written, put_at, put_items, items_at};
+ghost use Rattle.std.specs.Prelude.{◌≡◌, ◌*◌, ◌≤◌, length, replicate};
+ghost use Rattle.le_bytes.specs.Bytes.{encoded, decoded, put_at, put_items, items_at};
 
-use crate::numbers::{lie_within, read, write};
+use crate::numbers::{end_within, read, write};
 
-fn read_items(s: &[u8], at: usize, width: usize, out: &mut [u64])
-    requires { (width ≤ 8) × (at + length out.old * width ≤ length s.now) }
-    ensures { out.new ≡ decoded (replicate (length out.old) width) (drop at s.now) }
+// By what is left, since chunks of width 0 are none.
+fn read_items(s: &[u8], width: usize, out: &mut [u64])
+    requires { (width ≤ 8) × (length s.now ≡ length out.old * width) }
+    ensures { out.new ≡ decoded (replicate (length out.old) width) s.now }
 {
-    let mut next = at;
-    let mut i: usize = 0;
-    while i < out.len() {
-        out[i] = read(s, next, width);
-        next += width;
-        i += 1;
+    let mut rest = s;
+    for n in out {
+        let (bytes, more) = rest.split_at(width);
+        *n = read(bytes);
+        rest = more;
     }
 }
 
-fn write_items(out: &mut [u8], at: usize, width: usize, values: &[u64])
-    requires { at + length values.now * width ≤ length out.old }
-    ensures { out.new ≡ written at (encoded (replicate (length values.now) width) values.now) out.old }
+// By place, since nothing is known of what lent chunks end as.
+fn write_items(out: &mut [u8], width: usize, values: &[u64])
+    requires { length out.old ≡ length values.now * width }
+    ensures { out.new ≡ encoded (replicate (length values.now) width) values.now }
 {
-    let mut next = at;
-    let mut i: usize = 0;
-    while i < values.len() {
-        write(out, next, width, values[i]);
-        next += width;
-        i += 1;
-    }
-}
-
-fn write_bytes(out: &mut [u8], at: usize, from: &[u8])
-    requires { at + length from.now ≤ length out.old }
-    ensures { out.new ≡ written at from.now out.old }
-{
-    let mut i: usize = 0;
-    while i < from.len() {
-        out[at + i] = from[i];
-        i += 1;
+    for (i, n) in values.iter().enumerate() {
+        let at = i * width;
+        write(&mut out[at..at + width], *n);
     }
 }
 
@@ -46,11 +33,10 @@ fn write_bytes(out: &mut [u8], at: usize, from: &[u8])
 pub fn items_at(s: &[u8], at: usize, width: usize, out: &mut [u64])
     ensures { out.new ≡ items_at at width out.old s.now }
 {
-    if 8 < width {
-        return;
-    }
-    if lie_within(at, out.len() * width, s.len()) {
-        read_items(s, at, width, out);
+    if width <= 8
+        && let Some(end) = end_within(at, out.len() * width, s.len())
+    {
+        read_items(&s[at..end], width, out);
     }
 }
 
@@ -59,11 +45,10 @@ pub fn items_at(s: &[u8], at: usize, width: usize, out: &mut [u64])
 pub fn put_items(out: &mut [u8], at: usize, width: usize, values: &[u64])
     ensures { out.new ≡ put_items at width values.now out.old }
 {
-    if 8 < width {
-        return;
-    }
-    if lie_within(at, values.len() * width, out.len()) {
-        write_items(out, at, width, values);
+    if width <= 8
+        && let Some(end) = end_within(at, values.len() * width, out.len())
+    {
+        write_items(&mut out[at..end], width, values);
     }
 }
 
@@ -72,8 +57,8 @@ pub fn put_items(out: &mut [u8], at: usize, width: usize, values: &[u64])
 pub fn copy(out: &mut [u8], at: usize, from: &[u8])
     ensures { out.new ≡ put_at at from.now out.old }
 {
-    if lie_within(at, from.len(), out.len()) {
-        write_bytes(out, at, from);
+    if let Some(end) = end_within(at, from.len(), out.len()) {
+        out[at..end].copy_from_slice(from);
     }
 }
 
@@ -82,9 +67,5 @@ pub fn copy(out: &mut [u8], at: usize, from: &[u8])
 pub fn zero(s: &mut [u8])
     ensures { s.new ≡ replicate (length s.old) 0 }
 {
-    let mut i: usize = 0;
-    while i < s.len() {
-        s[i] = 0;
-        i += 1;
-    }
+    s.fill(0);
 }

@@ -1,46 +1,31 @@
 // One number in a slice of bytes.
-ghost use Rattle.std.specs.Prelude.{◌≡◌, ◌+◌, ◌≤◌, leb, length, take, drop};
-ghost use Rattle.le_bytes.specs.Bytes.{bytes, number, within, written, put_at, number_at};
+ghost use Rattle.std.specs.Prelude.{◌≡◌, ◌+◌, ◌≤◌, length};
+ghost use Rattle.std.specs.Option.{SomeIff};
+ghost use Rattle.le_bytes.specs.Bytes.{bytes, number, put_at, number_at};
 
-// Whether `n` bytes from `at` on lie in so many.
-pub(crate) fn lie_within(at: usize, n: usize, len: usize) -> bool
-    ensures { result ≡ leb (at + n) len }
+// Where `n` bytes from `at` on end, if they lie in so many.
+pub(crate) fn end_within(at: usize, n: usize, len: usize) -> Option<usize>
+    ensures { SomeIff result (at + n ≤ len) (at + n) }
 {
-    if len < n {
-        return false;
-    }
-    at <= len - n
+    at.checked_add(n).filter(|end| *end <= len)
 }
 
-fn wide(b: u8) -> u64
-    ensures { result ≡ b }
+pub(crate) fn read(s: &[u8]) -> u64
+    requires { length s.now ≤ 8 }
+    ensures { result ≡ number s.now }
 {
-    b as u64
+    let mut eight = [0; 8];
+    eight[..s.len()].copy_from_slice(s);
+    u64::from_le_bytes(eight)
 }
 
-pub(crate) fn read(s: &[u8], at: usize, width: usize) -> u64
-    requires { (width ≤ 8) × (at + width ≤ length s.now) }
-    ensures { result ≡ number (take width (drop at s.now)) }
-{
-    let mut n: u64 = 0;
-    let mut i = width;
-    while 0 < i {
-        i -= 1;
-        n = n * 256 + wide(s[at + i]);
-    }
-    n
-}
-
-pub(crate) fn write(out: &mut [u8], at: usize, width: usize, n: u64)
-    requires { at + width ≤ length out.old }
-    ensures { out.new ≡ written at (bytes width n) out.old }
+pub(crate) fn write(out: &mut [u8], n: u64)
+    ensures { out.new ≡ bytes (length out.old) n }
 {
     let mut rest = n;
-    let mut i: usize = 0;
-    while i < width {
-        out[at + i] = (rest % 256) as u8;
+    for b in out {
+        *b = (rest % 256) as u8;
         rest /= 256;
-        i += 1;
     }
 }
 
@@ -49,13 +34,10 @@ pub(crate) fn write(out: &mut [u8], at: usize, width: usize, n: u64)
 pub fn number_at(s: &[u8], at: usize, width: usize) -> u64
     ensures { result ≡ number_at at width s.now }
 {
-    if 8 < width {
-        return 0;
+    match end_within(at, width, s.len()) {
+        Some(end) if width <= 8 => read(&s[at..end]),
+        _ => 0,
     }
-    if lie_within(at, width, s.len()) {
-        return read(s, at, width);
-    }
-    0
 }
 
 // Puts a number into `width` bytes at `at`.
@@ -63,7 +45,7 @@ pub fn number_at(s: &[u8], at: usize, width: usize) -> u64
 pub fn put_number(out: &mut [u8], at: usize, width: usize, n: u64)
     ensures { out.new ≡ put_at at (bytes width n) out.old }
 {
-    if lie_within(at, width, out.len()) {
-        write(out, at, width, n);
+    if let Some(end) = end_within(at, width, out.len()) {
+        write(&mut out[at..end], n);
     }
 }

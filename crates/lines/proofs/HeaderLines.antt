@@ -1,140 +1,116 @@
 -- Laws of the header's line: what is printed is taken again, and what is taken was printed. Assumes nothing.
-use Rattle.std.specs.Prelude.{if◌then◌else◌}
-use mathlib.Core.Path.{◌≡◌, refl, sym, ap}
-use mathlib.Core.Bool.{Bool, true, false}
-use mathlib.Core.List.{List, [], ◌∷◌, ◌++◌, append_assoc}
-use Prim.Native.Nat.{ℕ, ◌≤◌, ◌<◌, ◌^◌}
-use native.Mathlib.Omega.{arith}
-use lib.ListN.{length, take, drop, get_or}
-use lib.Seq.{get_or-take}
-use lib.Dec.{eqb}
-use borrow.Author.Tests.{eqb-true}
-use Rattle.lines.specs.Print.{print_decimal, print_hex16, print_fields, print_header, HeaderFits}
-use Rattle.lines.specs.Take.{got, none, max32, take_rest, print_all, Within, limits_of, made_header, take_header, seen_header, header_end}
-use Rattle.lines.specs.Reads.{HeaderRead}
+use Rattle.std.proofs.Common.{◌≡◌, ℕ, ◌^◌, ◌<◌, true, eqb, List, [], ◌∷◌, ◌++◌, append_assoc, Some, None, inl, inr, refl, sym, subst, eqb-true}
+use Rattle.std.proofs.lemmas.Option.{some_pair_parts}
+use Rattle.lines.specs.Print.{print_decimal, print_hex16, print_fields, print_policy, print_header, PolicyFits, HeaderFits}
+use Rattle.lines.specs.Take.{after, take_field, take_narrow, take_bits, take_consecutive, take_ratio, take_windowed, take_policy, take_header}
+use Rattle.lines.specs.Reads.{Read, HeaderRead}
 use Rattle.lines.specs.declared.Header.{Header}
-use Rattle.lines.specs.declared.Header.TheVariants.{Consecutive, Ratio, Windowed}
-use Rattle.lines.specs.declared.ReadHeader.{ReadHeader}
-use Rattle.lines.specs.declared.ReadHeader.TheVariants as ReadHeaderIs
-use Rattle.lines.proofs.Fields.{bound-back, rest-there, rest_back, within-at, within-each}
+use Rattle.lines.specs.declared.HeaderPolicy.{HeaderPolicy}
+use Rattle.lines.specs.declared.HeaderPolicy.TheVariants.{Consecutive, Ratio, Windowed}
+use Rattle.lines.proofs.After.{got, bound-back, chosen-back, after-back}
+use Rattle.lines.proofs.Numbers.{stops}
+use Rattle.lines.proofs.Fields.{two-fields, field-there, narrow-there, bits-there, field_back, narrow-back, bits-back}
 
--- ---- a header's letter and values
-abbrev letter : Header → ℕ
-letter (Consecutive n c t r) = 67
-letter (Ratio w b m c t r) = 82
-letter (Windowed f p c t r) = 87
+-- ---- fields with what follows them, as the readers meet them
+one-field : (x : ℕ) (rest : List ℕ) → print_fields (x ∷ []) ++ rest ≡ 32 ∷ (print_decimal x ++ rest)
+unfolding print_fields
+one-field x rest = simp append_assoc
 
-abbrev values : Header → List ℕ
-values (Consecutive n c t r) = n ∷ c ∷ t ∷ r ∷ []
-values (Ratio w b m c t r) = w ∷ b ∷ m ∷ c ∷ t ∷ r ∷ []
-values (Windowed f p c t r) = f ∷ p ∷ c ∷ t ∷ r ∷ []
+three-fields : (x y z : ℕ) (rest : List ℕ) → print_fields (x ∷ y ∷ z ∷ []) ++ rest ≡ 32 ∷ (print_decimal x ++ (32 ∷ (print_decimal y ++ (32 ∷ (print_decimal z ++ rest)))))
+unfolding print_fields
+three-fields x y z rest = simp append_assoc
 
-ratio-line : (W B F : List ℕ) → W ++ (32 ∷ (B ++ (F ++ (10 ∷ [])))) ≡ (W ++ (32 ∷ (B ++ F))) ++ (10 ∷ [])
-ratio-line W B F = simp append_assoc
+ratio-fields : (w b m : ℕ) (rest : List ℕ)
+    → (print_fields (w ∷ []) ++ (32 ∷ (print_hex16 b ++ print_fields (m ∷ [])))) ++ rest ≡ 32 ∷ (print_decimal w ++ (32 ∷ (print_hex16 b ++ (32 ∷ (print_decimal m ++ rest)))))
+ratio-fields w b m rest = simp (append_assoc, one-field)
 
--- the line is its letter, its fields and the feed
-line : (h : Header) → print_header h ≡ letter h ∷ (print_all (limits_of (letter h)) (values h) ++ (10 ∷ []))
-unfolding print_header print_all print_fields limits_of
-line (Consecutive n c t r) = refl
-line (Ratio w b m c t r) = ap (λ (bs : List ℕ). 82 ∷ 32 ∷ bs) (ratio-line (print_decimal w) (print_hex16 b) (print_fields (m ∷ c ∷ t ∷ r ∷ [])))
-line (Windowed f p c t r) = refl
-
-line-more : (h : Header) (rest : List ℕ) → print_header h ++ rest ≡ letter h ∷ (print_all (limits_of (letter h)) (values h) ++ (10 ∷ rest))
-line-more h rest = rw (line h, append_assoc)
+line : (h : Header) (rest : List ℕ)
+    → print_header h ++ rest ≡ print_policy h.policy ++ (32 ∷ (print_decimal h.cooldown_ms ++ (32 ∷ (print_decimal h.trials ++ (32 ∷ (print_decimal h.required ++ (10 ∷ rest)))))))
+unfolding print_header
+line h rest = simp (append_assoc, three-fields h.cooldown_ms h.trials h.required)
 
 -- ---- there
-fits-within : (h : Header) → HeaderFits h → Within (limits_of (letter h)) (values h)
-unfolding limits_of
-fits-within (Consecutive n c t r) f = (omega arith, (omega arith, (omega arith, (omega arith, tt))))
-fits-within (Ratio w b m c t r) f = (omega arith, (omega arith, (omega arith, (omega arith, (omega arith, (omega arith, tt))))))
-fits-within (Windowed k p c t r) f = (omega arith, (omega arith, (omega arith, (omega arith, (omega arith, tt)))))
+policy-there : (p : HeaderPolicy) (rest : List ℕ) → PolicyFits p → stops rest ≡ true → take_policy (print_policy p ++ rest) ≡ Some (p, rest)
+unfolding take_policy print_policy take_consecutive take_ratio take_windowed
+policy-there (Consecutive n) rest f e = rw (one-field n rest, narrow-there n rest f e)
+policy-there (Ratio w b m) rest f e =
+    rw (ratio-fields w b m rest, narrow-there w (32 ∷ (print_hex16 b ++ (32 ∷ (print_decimal m ++ rest)))) f.0 refl, bits-there b (32 ∷ (print_decimal m ++ rest)) f.1, narrow-there m rest f.2 e)
+policy-there (Windowed k p) rest f e = rw (two-fields k p rest, narrow-there k (32 ∷ (print_decimal p ++ rest)) f.0 refl, field-there p rest f.1 e)
 
-made-there : (h : Header) (rest : List ℕ) → made_header (letter h) (values h) rest ≡ got h rest
-made-there (Consecutive n c t r) rest = refl
-made-there (Ratio w b m c t r) rest = refl
-made-there (Windowed f p c t r) rest = refl
-
-header-there : (h : Header) (rest : List ℕ) → HeaderFits h → take_header (print_header h ++ rest) ≡ got h rest
-unfolding take_header
-header-there h rest f = rw (line-more h rest, rest-there (limits_of (letter h)) (values h) rest (fits-within h f)) (made-there h rest)
+header-there : (h : Header) (rest : List ℕ) → HeaderFits h → take_header (print_header h ++ rest) ≡ Some (h, rest)
+unfolding take_header after
+header-there h rest f =
+    let R = 32 ∷ (print_decimal h.required ++ (10 ∷ rest)) in
+    let T = 32 ∷ (print_decimal h.trials ++ R) in
+    rw (line h rest, policy-there h.policy (32 ∷ (print_decimal h.cooldown_ms ++ T)) f.0 refl, field-there h.cooldown_ms T f.1 refl, narrow-there h.trials R f.2 refl, narrow-there h.required (10 ∷ rest) f.3 refl)
 
 -- ---- back
--- the values that were taken are a header's, and it fits
-abbrev Is : ℕ → List ℕ → Header → Type 0
-Is k vs h = HeaderFits h × (letter h ≡ k) × (values h ≡ vs)
+abbrev Policy : List ℕ → HeaderPolicy → List ℕ → Type 0
+Policy bs p rest = PolicyFits p × (bs ≡ print_policy p ++ rest)
 
-made-back : (k : ℕ) (vs r : List ℕ) (h : Header) (rest : List ℕ) → Within (limits_of k) vs → made_header k vs r ≡ got h rest → Is k vs h × (r ≡ rest)
-unfolding limits_of
-made-back k vs r h rest w q = go (eqb k 67) (eqb k 82) (eqb k 87) refl refl refl q
+consecutive-back : (bs : List ℕ) (p : HeaderPolicy) (rest : List ℕ) → take_consecutive bs ≡ Some (p, rest) → Policy (67 ∷ bs) p rest
+unfolding take_consecutive print_policy
+consecutive-back bs p rest e = let n = bound-back (take_narrow bs) _ (p, rest) e in go n.0.0 n.0.1 (narrow-back bs n.0.0 n.0.1 n.1) n.2
   where
-    C : Header
-    C = Consecutive (get_or vs 0 0) (get_or vs 1 0) (get_or vs 2 0) (get_or vs 3 0)
+    go : (n : ℕ) (s : List ℕ) → (n < 2 ^ 32) × (bs ≡ 32 ∷ (print_decimal n ++ s)) → got (Consecutive n) s ≡ got p rest → Policy (67 ∷ bs) p rest
+    go n s f g = let q = some_pair_parts (Consecutive n) p s rest g in rw (← q.0, ← q.1) (f.0, rw (one-field n s) (cc (f.1)))
 
-    R : Header
-    R = Ratio (get_or vs 0 0) (get_or vs 1 0) (get_or vs 2 0) (get_or vs 3 0) (get_or vs 4 0) (get_or vs 5 0)
+ratio-back : (bs : List ℕ) (p : HeaderPolicy) (rest : List ℕ) → take_ratio bs ≡ Some (p, rest) → Policy (82 ∷ bs) p rest
+unfolding take_ratio print_policy
+ratio-back bs p rest e =
+    let w = bound-back (take_narrow bs) _ (p, rest) e in
+    let b = bound-back (take_bits w.0.1) _ (p, rest) w.2 in
+    let m = bound-back (take_narrow b.0.1) _ (p, rest) b.2 in
+    go w.0.0 b.0.0 m.0.0 w.0.1 b.0.1 m.0.1 (narrow-back bs w.0.0 w.0.1 w.1) (bits-back w.0.1 b.0.0 b.0.1 b.1) (narrow-back b.0.1 m.0.0 m.0.1 m.1) m.2
+  where
+    go : (w b m : ℕ) (s t u : List ℕ) → (w < 2 ^ 32) × (bs ≡ 32 ∷ (print_decimal w ++ s)) → (b < 2 ^ 64) × (s ≡ 32 ∷ (print_hex16 b ++ t)) → (m < 2 ^ 32) × (t ≡ 32 ∷ (print_decimal m ++ u))
+        → got (Ratio w b m) u ≡ got p rest → Policy (82 ∷ bs) p rest
+    go w b m s t u f h k g = let q = some_pair_parts (Ratio w b m) p u rest g in rw (← q.0, ← q.1) ((f.0, h.0, k.0), rw (ratio-fields w b m u) (cc (f.1, h.1, k.1)))
 
-    W : Header
-    W = Windowed (get_or vs 0 0) (get_or vs 1 0) (get_or vs 2 0) (get_or vs 3 0) (get_or vs 4 0)
+windowed-back : (bs : List ℕ) (p : HeaderPolicy) (rest : List ℕ) → take_windowed bs ≡ Some (p, rest) → Policy (87 ∷ bs) p rest
+unfolding take_windowed print_policy
+windowed-back bs p rest e =
+    let k = bound-back (take_narrow bs) _ (p, rest) e in
+    let t = bound-back (take_field k.0.1) _ (p, rest) k.2 in
+    go k.0.0 t.0.0 k.0.1 t.0.1 (narrow-back bs k.0.0 k.0.1 k.1) (field_back k.0.1 t.0.0 t.0.1 t.1) t.2
+  where
+    go : (k t : ℕ) (s u : List ℕ) → (k < 2 ^ 32) × (bs ≡ 32 ∷ (print_decimal k ++ s)) → (t < 2 ^ 64) × (s ≡ 32 ∷ (print_decimal t ++ u)) → got (Windowed k t) u ≡ got p rest → Policy (87 ∷ bs) p rest
+    go k t s u f h g = let q = some_pair_parts (Windowed k t) p u rest g in rw (← q.0, ← q.1) ((f.0, h.0), rw (two-fields k t u) (cc (f.1, h.1)))
 
-    is : (d : Header) → got d r ≡ got h rest → Is k vs d → Is k vs h × (r ≡ rest)
-    is d q o = let x : d ≡ h = cc in (rw (← x) o, cc)
+policy-back : (bs : List ℕ) (p : HeaderPolicy) (rest : List ℕ) → take_policy bs ≡ Some (p, rest) → Policy bs p rest
+unfolding take_policy
+policy-back [] p rest e = cc
+policy-back (k ∷ bs) p rest e = elim (chosen-back (eqb k 67) _ _ (p, rest) e) [
+  | inl h ↦ rw (eqb-true k 67 h.0) (consecutive-back bs p rest h.1)
+  | inr h ↦ elim (chosen-back (eqb k 82) _ _ (p, rest) h.1) [
+    | inl h ↦ rw (eqb-true k 82 h.0) (ratio-back bs p rest h.1)
+    | inr h ↦ elim (chosen-back (eqb k 87) _ _ (p, rest) h.1) [ inl h ↦ rw (eqb-true k 87 h.0) (windowed-back bs p rest h.1) | inr h ↦ cc (h.1) ]
+  ]
+]
 
-    go : (x y z : Bool) → eqb k 67 ≡ x → eqb k 82 ≡ y → eqb k 87 ≡ z → (if x then got C r else if y then got R r else if z then got W r else none) ≡ got h rest → Is k vs h × (r ≡ rest)
-    go true y z a b c q =
-        let l = eqb-true k 67 a in
-        let u = rw l at w in
-        let v = within-at (limits_of 67) vs u in
-        is C q ((omega (arith, v 0 (omega arith)), omega (arith, v 1 (omega arith)), omega (arith, v 2 (omega arith)), omega (arith, v 3 (omega arith))), sym l, sym (within-each (limits_of 67) vs u))
-    go false true z a b c q =
-        let l = eqb-true k 82 b in
-        let u = rw l at w in
-        let v = within-at (limits_of 82) vs u in
-        is R q
-        ((omega (arith, v 0 (omega arith)), omega (arith, v 1 (omega arith)), omega (arith, v 2 (omega arith)), omega (arith, v 3 (omega arith)), omega (arith, v 4 (omega arith)), omega (arith, v 5 (omega arith))), sym l, sym (within-each (limits_of 82) vs u))
-    go false false true a b c q =
-        let l = eqb-true k 87 c in
-        let u = rw l at w in
-        let v = within-at (limits_of 87) vs u in
-        is W q ((omega (arith, v 0 (omega arith)), omega (arith, v 1 (omega arith)), omega (arith, v 2 (omega arith)), omega (arith, v 3 (omega arith)), omega (arith, v 4 (omega arith))), sym l, sym (within-each (limits_of 87) vs u))
-    go false false false a b c q = let z : ◌≡◌ {A = ℕ} 0 1 = cc in absurd (omega arith)
-
-header-back : (bs : List ℕ) (h : Header) (rest : List ℕ) → take_header bs ≡ got h rest → HeaderFits h × (bs ≡ print_header h ++ rest)
+header-back : (bs : List ℕ) (h : Header) (rest : List ℕ) → take_header bs ≡ Some (h, rest) → HeaderFits h × (bs ≡ print_header h ++ rest)
 unfolding take_header
-header-back [] h rest e = let z : ◌≡◌ {A = ℕ} 0 1 = cc in absurd (omega arith)
-header-back (k ∷ bs) h rest e = go (bound-back (take_rest (limits_of k) bs) (λ vs r. made_header k vs r) h rest e)
+header-back bs h rest e =
+    let p = bound-back (take_policy bs) _ (h, rest) e in
+    let c = bound-back (take_field p.0.1) _ (h, rest) p.2 in
+    let t = bound-back (take_narrow c.0.1) _ (h, rest) c.2 in
+    let r = bound-back (take_narrow t.0.1) _ (h, rest) t.2 in
+    let n = bound-back (after 10 r.0.1) _ (h, rest) r.2 in
+    whole p.0.0 c.0.0 t.0.0 r.0.0 p.0.1 c.0.1 t.0.1 r.0.1 n.0 (policy-back bs p.0.0 p.0.1 p.1) (field_back p.0.1 c.0.0 c.0.1 c.1) (narrow-back c.0.1 t.0.0 t.0.1 t.1) (narrow-back t.0.1 r.0.0 r.0.1 r.1) (after-back 10 r.0.1 n.0 n.1) n.2
   where
-    go : (vs : List ℕ) × (r : List ℕ) × (take_rest (limits_of k) bs ≡ got vs r) × (made_header k vs r ≡ got h rest) → HeaderFits h × (k ∷ bs ≡ print_header h ++ rest)
-    go (vs, r, p, q) =
-        let b = rest_back (limits_of k) bs vs r p in
-        let m = made-back k vs r h rest b.0 q in
-        (m.0.0, rw (line-more h rest, m.0.1, m.0.2, ← m.1) (ap (λ (t : List ℕ). k ∷ t) b.1))
+    whole : (p : HeaderPolicy) (c t r : ℕ) (s u v w left : List ℕ) → Policy bs p s → (c < 2 ^ 64) × (s ≡ 32 ∷ (print_decimal c ++ u)) → (t < 2 ^ 32) × (u ≡ 32 ∷ (print_decimal t ++ v)) → (r < 2 ^ 32) × (v ≡ 32 ∷ (print_decimal r ++ w))
+        → w ≡ 10 ∷ left → got (record { policy = p; cooldown_ms = c; trials = t; required = r }) left ≡ got h rest → HeaderFits h × (bs ≡ print_header h ++ rest)
+    whole p c t r s u v w left f k l m n g =
+        let d : Header = record { policy = p; cooldown_ms = c; trials = t; required = r } in
+        let q = some_pair_parts d h left rest g in
+        let z : HeaderFits d × (bs ≡ print_header d ++ left) = ((f.0, k.0, l.0, m.0), rw (line d left) (cc (f.1, k.1, l.1, m.1, n))) in
+        subst (λ (x : Header). HeaderFits x × (bs ≡ print_header x ++ rest)) q.0 (z.0, rw q.1 at z.1)
 
 -- ---- what a reader's answer says of the bytes
-pub header_read : (s : List ℕ) (at : ℕ) (r : ReadHeader) → seen_header s r ≡ take_header (drop at s) → header_end r ≤ length s → HeaderRead s at r
-header_read s at (ReadHeaderIs.Is h next) e n = let b = header-back (drop at s) h (drop next s) (sym e) in (b.0, b.1, n)
-header_read s at ReadHeaderIs.Malformed e n = λ h rest f q. let t = header-there h rest f in let z : ◌≡◌ {A = ℕ} 0 1 = cc in omega arith
+pub header_read : (s : List ℕ) (r : Read Header) → r ≡ take_header s → HeaderRead s r
+header_read s (Some (h, rest)) e = header-back s h rest (sym e)
+header_read s None e = λ h rest f q. let t = header-there h rest f in cc
 
 -- bytes begin with one header's line at most
 pub same-header : (c d : Header) (x y : List ℕ) → HeaderFits c → HeaderFits d → print_header c ++ x ≡ print_header d ++ y → (c ≡ d) × (x ≡ y)
-same-header c d x y f g e = let a = header-there c x f in let b = header-there d y g in ((cc), (cc))
-
--- ---- the code's values
--- those behind the letter's own count don't matter
-pub made-header : (k : ℕ) (v rest : List ℕ) → made_header k (take (length (limits_of k)) v) rest ≡ made_header k v rest
-unfolding limits_of
-made-header k v rest = go (eqb k 67) (eqb k 82) (eqb k 87) refl refl refl
-  where
-    go : (x y z : Bool) → eqb k 67 ≡ x → eqb k 82 ≡ y → eqb k 87 ≡ z → made_header k (take (length (limits_of k)) v) rest ≡ made_header k v rest
-    go true y z a b c =
-        rw (eqb-true k 67 a, get_or-take 4 v 0 0 (omega arith), get_or-take 4 v 1 0 (omega arith), get_or-take 4 v 2 0 (omega arith), get_or-take 4 v 3 0 (omega arith))
-    go false true z a b c =
-        rw (eqb-true k 82 b, get_or-take 6 v 0 0 (omega arith), get_or-take 6 v 1 0 (omega arith), get_or-take 6 v 2 0 (omega arith), get_or-take 6 v 3 0 (omega arith), get_or-take 6 v 4 0 (omega arith), get_or-take 6 v 5 0 (omega arith))
-    go false false true a b c =
-        rw (eqb-true k 87 c, get_or-take 5 v 0 0 (omega arith), get_or-take 5 v 1 0 (omega arith), get_or-take 5 v 2 0 (omega arith), get_or-take 5 v 3 0 (omega arith), get_or-take 5 v 4 0 (omega arith))
-    go false false false a b c = rw (a, b, c)
-
--- a value that was taken fits its field
-pub limited : (k : ℕ) (v : List ℕ) (m i : ℕ) → k ≡ m → Within (limits_of k) (take (length (limits_of k)) v) → i < length (limits_of m) → get_or (limits_of m) i 0 ≡ max32 → get_or v i 0 < 2 ^ 32
-limited k v m i e w h l =
-    let b = within-at (limits_of m) (take (length (limits_of m)) v) (rw e at w) i h in
-    omega (arith, rw (l, get_or-take (length (limits_of m)) v i 0 h) at b)
+same-header c d x y f g e = let a = header-there c x f in let b = header-there d y g in some_pair_parts c d x y (cc)

@@ -1,78 +1,13 @@
 -- Laws of numbers in bytes: what is printed is taken again, and what is taken was printed. Assumes nothing.
-use Rattle.std.specs.Prelude.{if◌then◌else◌}
-use mathlib.Core.Path.{◌≡◌, refl, sym, ◌∙◌}
-use mathlib.Core.Bool.{Bool, true, false, ◌&&◌}
-use mathlib.Core.List.{List, [], ◌∷◌, ◌++◌, append_assoc}
-use Prim.Native.Nat.{ℕ, zero, suc, ◌+◌, ◌*◌, ◌-◌, ◌/◌, ◌%◌, ◌^◌, ◌≤◌, ◌<◌}
+use Rattle.std.proofs.Common.{◌≡◌, ℕ, zero, suc, ◌+◌, ◌*◌, ◌-◌, ◌/◌, ◌%◌, ◌^◌, ◌≤◌, ◌<◌, Bool, true, false, not, ltb, eqb, if◌then◌else◌, List, [], ◌∷◌, ◌++◌, append_assoc, length, take, drop, get_or, get_or-take, Option, Some, None, refl, sym, ◌∙◌, add-one, arith, lt-ltb, le-ltb, ltb-true, ltb-false, ne_eqb, eqb-true}
+use Rattle.std.specs.Option.{option_and_then}
+use Rattle.std.proofs.lemmas.Option.{some_pair_parts}
+use Rattle.std.proofs.lemmas.Bool.Decides.{nat_tests}
 use native.Mathlib.Nat.{zero-add, add-zero, pow-suc, pow-le-pow_right}
-use native.Mathlib.Numerals.{add-one}
-use native.Mathlib.Omega.{arith}
-use lib.ListN.{length, drop, get_or, drop_of_length-le}
 use lib.Seq.{drop-cons}
-use lib.Dec.{ltb, leb, eqb}
-use borrow.Author.Tests.{ltb-true, ltb-false, leb-true, leb-false, eqb-true, eqb-false, lt-ltb, le-ltb, le-leb, lt-leb, ne_eqb}
 use Rattle.lines.specs.Print.{decimal_in, print_decimal, glyph, hex_in, print_hex16}
-use Rattle.lines.specs.Take.{got, none, digit_of, room_for, take_digits, take_number, take_hex}
-
--- ---- room for one digit more
-pub room-wide : (limit v d : ℕ) → limit < d → false ≡ room_for limit v d
-unfolding room_for
-room-wide limit v d h = go (ltb d 10)
-  where
-    go : (x : Bool) → false ≡ (x && leb (v * 10 + d) limit)
-    go true = sym (lt-leb (v * 10 + d) limit (omega arith))
-    go false = refl
-
-pub room-test : (limit v d : ℕ) → d < 10 → d ≤ limit → leb v ((limit - d) / 10) ≡ room_for limit v d
-unfolding room_for
-room-test limit v d h l = rw (lt-ltb d 10 h) (go (leb v ((limit - d) / 10)) refl)
-  where
-    go : (x : Bool) → leb v ((limit - d) / 10) ≡ x → x ≡ leb (v * 10 + d) limit
-    go true e = sym (le-leb (v * 10 + d) limit (omega (arith, leb-true v ((limit - d) / 10) e)))
-    go false e = sym (lt-leb (v * 10 + d) limit (omega (arith, leb-false v ((limit - d) / 10) e)))
-
-pub room→ : (limit v d : ℕ) → room_for limit v d ≡ true → (d < 10) × (v * 10 + d ≤ limit)
-unfolding room_for
-room→ limit v d e = go (ltb d 10) (leb (v * 10 + d) limit) refl refl e
-  where
-    go : (x y : Bool) → ltb d 10 ≡ x → leb (v * 10 + d) limit ≡ y → (x && y) ≡ true → (d < 10) × (v * 10 + d ≤ limit)
-    go true true p q r = (ltb-true d 10 p, leb-true (v * 10 + d) limit q)
-    go true false p q r = let z : ◌≡◌ {A = ℕ} 0 1 = cc in (omega arith, omega arith)
-    go false y p q r = let z : ◌≡◌ {A = ℕ} 0 1 = cc in (omega arith, omega arith)
-
-pub →room : (limit v d : ℕ) → d < 10 → v * 10 + d ≤ limit → room_for limit v d ≡ true
-unfolding room_for
-→room limit v d h l = simp (lt-ltb d 10 h, le-leb (v * 10 + d) limit l)
-
--- ---- a byte that is a digit
-pub digit_glyph : (d : ℕ) → d < 16 → digit_of (glyph d) ≡ d
-unfolding digit_of
-digit_glyph d h = go (ltb d 10) refl
-  where
-    go : (x : Bool) → ltb d 10 ≡ x → digit_of (if x then 48 + d else 87 + d) ≡ d
-    go true e = let l = ltb-true d 10 e in rw (le-ltb (48 + d) 48 (omega arith), lt-ltb (48 + d) 58 (omega arith)) (omega arith)
-    go false e =
-        let l = ltb-false d 10 e in
-        rw (le-ltb (87 + d) 48 (omega arith), le-ltb (87 + d) 58 (omega arith), le-ltb (87 + d) 97 (omega arith), lt-ltb (87 + d) 103 (omega arith)) (omega arith)
-
-pub glyph-digit : (b : ℕ) → digit_of b < 16 → glyph (digit_of b) ≡ b
-unfolding digit_of
-glyph-digit b = go (ltb b 48) (ltb b 58) (ltb b 97) (ltb b 103) refl refl refl refl
-  where
-    go : (x y z w : Bool) → ltb b 48 ≡ x → ltb b 58 ≡ y → ltb b 97 ≡ z → ltb b 103 ≡ w
-        → (if x then 16 else if y then b - 48 else if z then 16 else if w then b - 87 else 16) < 16
-        → glyph (if x then 16 else if y then b - 48 else if z then 16 else if w then b - 87 else 16) ≡ b
-    go true y z w p q r s h = omega arith
-    go false true z w p q r s h = let l = ltb-true b 58 q in let m = ltb-false b 48 p in rw (lt-ltb (b - 48) 10 (omega arith)) (omega arith)
-    go false false true w p q r s h = omega arith
-    go false false false true p q r s h = let l = ltb-false b 97 r in rw (le-ltb (b - 87) 10 (omega arith)) (omega arith)
-    go false false false false p q r s h = omega arith
-
-pub digit-decimal : (d : ℕ) → d < 10 → digit_of (48 + d) ≡ d
-digit-decimal d h = rw (lt-ltb d 10 h) at (digit_glyph d (omega arith))
-
-pub decimal_digit : (b : ℕ) → digit_of b < 10 → 48 + digit_of b ≡ b
-decimal_digit b h = rw (lt-ltb (digit_of b) 10 h) at (glyph-digit b (omega arith))
+use Rattle.lines.proofs.After.{bound-back}
+use Rattle.lines.specs.Take.{is_decimal, take_digits, take_decimal, hex_digit, take_hex}
 
 -- ---- printed decimals
 enough : (k j n : ℕ) → n < k → n < j → decimal_in k n ≡ decimal_in j n
@@ -112,74 +47,97 @@ by_digits P small more n = go (suc n) n (omega arith)
         pick false e ih = more m (ltb-false m 10 e) (ih (ltb-false m 10 e))
 
 -- ---- decimals, there and back
--- the bytes of v take the reader to v
-decimal-there : (limit : ℕ) (rest : List ℕ) (v : ℕ) → 0 < v → v ≤ limit → take_number limit (print_decimal v ++ rest) ≡ take_digits limit v rest
-unfolding take_number take_digits
-decimal-there limit rest v = by_digits (λ v. (rest : List ℕ) → 0 < v → v ≤ limit → take_number limit (print_decimal v ++ rest) ≡ take_digits limit v rest) small more v rest
-  where
-    small : (d : ℕ) → d < 10 → (rest : List ℕ) → 0 < d → d ≤ limit → take_number limit (print_decimal d ++ rest) ≡ take_digits limit d rest
-    small d h rest p l =
-        rw (print-digit d h, digit-decimal d h, →room limit 0 d h (omega arith), ne_eqb d 0 (λ e. omega arith))
+-- one digit more
+digit-there : (v d : ℕ) (rest : List ℕ) → d < 10 → v * 10 + d < 2 ^ 64 → take_digits v ((48 + d) ∷ rest) ≡ take_digits (v * 10 + d) rest
+unfolding take_digits
+digit-there v d rest h l =
+    let t : is_decimal (48 + d) ≡ true = grind (arith, nat_tests) in
+    let e : 48 + d - 48 ≡ d = omega arith in
+    rw (t, e, lt-ltb (v * 10 + d) (2 ^ 64) l)
 
-    more : (n : ℕ) → 10 ≤ n → ((rest : List ℕ) → 0 < n / 10 → n / 10 ≤ limit → take_number limit (print_decimal (n / 10) ++ rest) ≡ take_digits limit (n / 10) rest)
-        → (rest : List ℕ) → 0 < n → n ≤ limit → take_number limit (print_decimal n ++ rest) ≡ take_digits limit n rest
+-- the bytes of v take the reader to v
+decimal-there : (rest : List ℕ) (v : ℕ) → 0 < v → v < 2 ^ 64 → take_decimal (print_decimal v ++ rest) ≡ take_digits v rest
+unfolding take_decimal
+decimal-there rest v = by_digits (λ v. (rest : List ℕ) → 0 < v → v < 2 ^ 64 → take_decimal (print_decimal v ++ rest) ≡ take_digits v rest) small more v rest
+  where
+    small : (d : ℕ) → d < 10 → (rest : List ℕ) → 0 < d → d < 2 ^ 64 → take_decimal (print_decimal d ++ rest) ≡ take_digits d rest
+    small d h rest p l =
+        let t : is_decimal (48 + d) ≡ true = grind (arith, nat_tests) in
+        rw (print-digit d h, ne_eqb (48 + d) 48 (omega arith), t) (digit-there 0 d rest h (omega arith) ∙ rw zero-add)
+
+    more : (n : ℕ) → 10 ≤ n → ((rest : List ℕ) → 0 < n / 10 → n / 10 < 2 ^ 64 → take_decimal (print_decimal (n / 10) ++ rest) ≡ take_digits (n / 10) rest)
+        → (rest : List ℕ) → 0 < n → n < 2 ^ 64 → take_decimal (print_decimal n ++ rest) ≡ take_digits n rest
     more n h ih rest p l =
-        let d : n % 10 < 10 = omega arith in
         let e : n / 10 * 10 + n % 10 ≡ n = omega arith in
-        rw (print-more n h, append_assoc) (ih ((48 + n % 10) ∷ rest) (omega arith) (omega arith) ∙ rw (digit-decimal (n % 10) d, →room limit (n / 10) (n % 10) d (omega arith), e))
+        rw (print-more n h, append_assoc) (ih ((48 + n % 10) ∷ rest) (omega arith) (omega arith) ∙ digit-there (n / 10) (n % 10) rest (omega arith) (omega arith) ∙ rw e)
 
 -- whether no digit stands at the front
-unfoldable pub stops : List ℕ → Bool
+abbrev pub stops : List ℕ → Bool
 stops [] = true
-stops (b ∷ bs) = leb 10 (digit_of b)
+stops (b ∷ bs) = not (is_decimal b)
 
-digits-stop : (limit v : ℕ) (rest : List ℕ) → stops rest ≡ true → take_digits limit v rest ≡ got v rest
-unfolding take_digits room_for stops
-digits-stop limit v [] e = refl
-digits-stop limit v (b ∷ bs) e = simp (le-ltb (digit_of b) 10 (leb-true 10 (digit_of b) e))
-
-pub number-there : (limit v : ℕ) (rest : List ℕ) → v ≤ limit → stops rest ≡ true → take_number limit (print_decimal v ++ rest) ≡ got v rest
-unfolding take_number digit_of
-number-there limit zero rest h e = rw (print-digit 0 (omega arith), →room limit 0 0 (omega arith) (omega arith))
-number-there limit (suc n) rest h e = decimal-there limit rest (suc n) (omega arith) h ∙ digits-stop limit (suc n) rest e
-
-digits-back : (limit u : ℕ) (bs : List ℕ) (v : ℕ) (rest : List ℕ) → 0 < u → u ≤ limit → take_digits limit u bs ≡ got v rest
-    → (v ≤ limit) × (print_decimal u ++ bs ≡ print_decimal v ++ rest)
+digits-stop : (v : ℕ) (rest : List ℕ) → stops rest ≡ true → take_digits v rest ≡ Some (v, rest)
 unfolding take_digits
-digits-back limit u [] v rest p l e = let a : u ≡ v = cc in (omega arith, cc)
-digits-back limit u (b ∷ bs) v rest p l e =
-    go (room_for limit u (digit_of b)) refl (λ h m q. digits-back limit (u * 10 + digit_of b) bs v rest (omega arith) m q) e
+digits-stop v [] e = refl
+digits-stop v (b ∷ bs) e = go (is_decimal b) e
   where
-    go : (x : Bool) → room_for limit u (digit_of b) ≡ x
-        → (digit_of b < 10 → u * 10 + digit_of b ≤ limit → take_digits limit (u * 10 + digit_of b) bs ≡ got v rest → (v ≤ limit) × (print_decimal (u * 10 + digit_of b) ++ bs ≡ print_decimal v ++ rest))
-        → (if x then take_digits limit (u * 10 + digit_of b) bs else got u (b ∷ bs)) ≡ got v rest → (v ≤ limit) × (print_decimal u ++ (b ∷ bs) ≡ print_decimal v ++ rest)
-    go true r ih q =
-        let f = room→ limit u (digit_of b) r in
-        let i = ih f.0 f.1 q in
-        (i.0, rw (print-push u (digit_of b) p f.0, append_assoc, decimal_digit b f.0) at i.1)
-    go false r ih q = let a : u ≡ v = cc in (omega arith, cc)
+    go : (x : Bool) → not x ≡ true → (if x then (if ltb (v * 10 + (b - 48)) (2 ^ 64) then take_digits (v * 10 + (b - 48)) bs else None) else Some (v, b ∷ bs)) ≡ Some (v, b ∷ bs)
+    go true e = cc
+    go false e = refl
 
-pub number-back : (limit : ℕ) (bs : List ℕ) (v : ℕ) (rest : List ℕ) → take_number limit bs ≡ got v rest → (v ≤ limit) × (bs ≡ print_decimal v ++ rest)
-unfolding take_number
-number-back limit [] v rest e = let z : ◌≡◌ {A = ℕ} 0 1 = cc in absurd (omega arith)
-number-back limit (b ∷ bs) v rest e = go (room_for limit 0 (digit_of b)) (eqb (digit_of b) 0) refl refl e
+pub number-there : (v : ℕ) (rest : List ℕ) → v < 2 ^ 64 → stops rest ≡ true → take_decimal (print_decimal v ++ rest) ≡ Some (v, rest)
+unfolding take_decimal
+number-there zero rest h e = rw (print-digit 0 (omega arith))
+number-there (suc n) rest h e = decimal-there rest (suc n) (omega arith) h ∙ digits-stop (suc n) rest e
+
+-- a number that was taken, with what is left
+abbrev Printed : ℕ → List ℕ → List ℕ → Type 0
+Printed v bs rest = (v < 2 ^ 64) × (bs ≡ print_decimal v ++ rest)
+
+digits-back : (u : ℕ) (bs : List ℕ) (v : ℕ) (rest : List ℕ) → 0 < u → u < 2 ^ 64 → take_digits u bs ≡ Some (v, rest) → Printed v (print_decimal u ++ bs) rest
+unfolding take_digits
+digits-back u [] v rest p l e = let a = some_pair_parts _ _ _ _ e in (omega arith, cc (a.0, a.1))
+digits-back u (b ∷ bs) v rest p l e =
+    go (is_decimal b) (ltb (u * 10 + (b - 48)) (2 ^ 64)) refl refl (λ m q. digits-back (u * 10 + (b - 48)) bs v rest (omega arith) m q) e
   where
-    go : (x y : Bool) → room_for limit 0 (digit_of b) ≡ x → eqb (digit_of b) 0 ≡ y
-        → (if x then (if y then got 0 bs else take_digits limit (digit_of b) bs) else none) ≡ got v rest → (v ≤ limit) × (b ∷ bs ≡ print_decimal v ++ rest)
-    go true true r z q =
-        let f = room→ limit 0 (digit_of b) r in
-        let a : 0 ≡ v = cc in
-        let d : b ≡ 48 = omega (arith, decimal_digit b f.0, eqb-true (digit_of b) 0 z) in
+    go : (x y : Bool) → is_decimal b ≡ x → ltb (u * 10 + (b - 48)) (2 ^ 64) ≡ y
+        → (u * 10 + (b - 48) < 2 ^ 64 → take_digits (u * 10 + (b - 48)) bs ≡ Some (v, rest) → Printed v (print_decimal (u * 10 + (b - 48)) ++ bs) rest)
+        → (if x then (if y then take_digits (u * 10 + (b - 48)) bs else None) else Some (u, b ∷ bs)) ≡ Some (v, rest) → Printed v (print_decimal u ++ (b ∷ bs)) rest
+    go true true r t ih q =
+        let w : (48 ≤ b) × (b ≤ 57) = grind (arith, nat_tests) in
+        let f : 48 + (b - 48) ≡ b = omega (arith, w) in
+        let i = ih (ltb-true _ _ t) q in
+        (i.0, rw (print-push u (b - 48) p (omega (arith, w)), append_assoc, f) at i.1)
+    go true false r t ih q = cc
+    go false y r t ih q = let a = some_pair_parts _ _ _ _ q in (omega arith, cc (a.0, a.1))
+
+pub number-back : (bs : List ℕ) (v : ℕ) (rest : List ℕ) → take_decimal bs ≡ Some (v, rest) → Printed v bs rest
+unfolding take_decimal take_digits
+number-back [] v rest e = cc
+number-back (b ∷ bs) v rest e = go (eqb b 48) (is_decimal b) refl refl e
+  where
+    go : (x y : Bool) → eqb b 48 ≡ x → is_decimal b ≡ y → (if x then Some (0, bs) else if y then take_digits 0 (b ∷ bs) else None) ≡ Some (v, rest) → Printed v (b ∷ bs) rest
+    go true y r t q =
+        let a = some_pair_parts _ _ _ _ q in
         let w : print_decimal 0 ≡ 48 ∷ [] = print-digit 0 (omega arith) in
-        (omega arith, rw (d, ← a, w) (cc))
-    go true false r z q =
-        let f = room→ limit 0 (digit_of b) r in
-        let p : 0 < digit_of b = omega (arith, eqb-false (digit_of b) 0 z) in
-        let i = digits-back limit (digit_of b) bs v rest p (omega arith) q in
-        (i.0, rw (print-digit (digit_of b) f.0, decimal_digit b f.0) at i.1)
-    go false y r z q = let z : ◌≡◌ {A = ℕ} 0 1 = cc in absurd (omega arith)
+        (omega arith, rw (eqb-true b 48 r, ← a.0, w) (cc (a.1)))
+    go false true r t q =
+        let w : (49 ≤ b) × (b ≤ 57) = grind (arith, nat_tests) in
+        let d : b - 48 < 10 = omega (arith, w) in
+        let f : 48 + (b - 48) ≡ b = omega (arith, w) in
+        let i = digits-back (b - 48) bs v rest (omega (arith, w)) (omega arith) (rw (t, lt-ltb (0 * 10 + (b - 48)) (2 ^ 64) (omega arith), zero-add) at q) in
+        (i.0, rw (print-digit (b - 48) d, f) at i.1)
+    go false false r t q = cc
 
 -- ---- hexadecimal, there and back
+hex_glyph : (d : ℕ) → d < 16 → hex_digit (glyph d) ≡ Some d
+unfolding hex_digit
+hex_glyph d h = grind (arith, nat_tests)
+
+glyph-hex : (b d : ℕ) → hex_digit b ≡ Some d → (d < 16) × (glyph d ≡ b)
+unfolding hex_digit
+glyph-hex b d e = grind (arith, nat_tests)
+
 pub hex-there : (k j n : ℕ) (rest : List ℕ) → n < 16 ^ k → take_hex (k + j) 0 (hex_in k n ++ rest) ≡ take_hex j n rest
 unfolding take_hex hex_in
 hex-there zero j n rest h = let e : n ≡ 0 = omega arith in rw (zero-add, e)
@@ -187,53 +145,60 @@ hex-there (suc k) j n rest h =
     let e : suc k + j ≡ k + suc j = omega arith in
     let d : n % 16 < 16 = omega arith in
     let m : n / 16 * 16 + n % 16 ≡ n = omega arith in
-    rw (e, append_assoc) (hex-there k (suc j) (n / 16) (glyph (n % 16) ∷ rest) (omega (arith, pow-suc 16 k)) ∙ rw (digit_glyph (n % 16) d, lt-ltb (n % 16) 16 d, m))
+    rw (e, append_assoc) (hex-there k (suc j) (n / 16) (glyph (n % 16) ∷ rest) (omega (arith, pow-suc 16 k)) ∙ rw (hex_glyph (n % 16) d, m))
 
-pub hex-back : (j k u : ℕ) (bs : List ℕ) (v : ℕ) (rest : List ℕ) → u < 16 ^ k → take_hex j u bs ≡ got v rest
+pub hex-back : (j k u : ℕ) (bs : List ℕ) (v : ℕ) (rest : List ℕ) → u < 16 ^ k → take_hex j u bs ≡ Some (v, rest)
     → (v < 16 ^ (k + j)) × (hex_in k u ++ bs ≡ hex_in (k + j) v ++ rest)
 unfolding take_hex hex_in
-hex-back zero k u bs v rest h e = let a : u ≡ v = cc in rw add-zero (omega arith, cc)
-hex-back (suc j) k u [] v rest h e = let z : ◌≡◌ {A = ℕ} 0 1 = cc in absurd (omega arith)
+hex-back zero k u bs v rest h e = let a = some_pair_parts _ _ _ _ e in rw add-zero (omega arith, cc (a.0, a.1))
+hex-back (suc j) k u [] v rest h e = cc
 hex-back (suc j) k u (b ∷ bs) v rest h e =
     let p : k + suc j ≡ suc k + j = omega arith in
-    rw p (go (ltb (digit_of b) 16) refl (λ d. hex-back j (suc k) (u * 16 + digit_of b) bs v rest (omega (arith, pow-suc 16 k))) e)
+    rw p (go (bound-back (hex_digit b) (λ d. take_hex j (u * 16 + d) bs) (v, rest) e) (λ d l. hex-back j (suc k) (u * 16 + d) bs v rest (omega (arith, pow-suc 16 k))))
   where
-    go : (x : Bool) → ltb (digit_of b) 16 ≡ x
-        → (digit_of b < 16 → take_hex j (u * 16 + digit_of b) bs ≡ got v rest → (v < 16 ^ (suc k + j)) × (hex_in (suc k) (u * 16 + digit_of b) ++ bs ≡ hex_in (suc k + j) v ++ rest))
-        → (if x then take_hex j (u * 16 + digit_of b) bs else none) ≡ got v rest → (v < 16 ^ (suc k + j)) × (hex_in k u ++ (b ∷ bs) ≡ hex_in (suc k + j) v ++ rest)
-    go true d ih q =
-        let l = ltb-true (digit_of b) 16 d in
-        let i = ih l q in
-        let a : (u * 16 + digit_of b) / 16 ≡ u = omega arith in
-        let m : (u * 16 + digit_of b) % 16 ≡ digit_of b = omega arith in
-        (i.0, rw (a, m, append_assoc, glyph-digit b l) at i.1)
-    go false d ih q = let z : ◌≡◌ {A = ℕ} 0 1 = cc in absurd (omega arith)
-
--- ---- the byte at a place
-pub front : (s : List ℕ) (i : ℕ) → i < length s → drop i s ≡ get_or s i 0 ∷ drop (i + 1) s
-front s i h = rw add-one (drop-cons s i 0 h)
-
--- ---- a turn of the hexadecimal loop: i digits are behind it
-pub hex-end : (i v next : ℕ) (s : List ℕ) → i < 16 → length s ≤ next → take_hex (16 - i) v (drop next s) ≡ none
-unfolding take_hex
-hex-end i v next s h l = let e : 16 - i ≡ suc (16 - (i + 1)) = omega arith in rw (e, drop_of_length-le s l)
-
-pub hex-step : (i v next : ℕ) (s : List ℕ) → i < 16 → next < length s
-    → take_hex (16 - i) v (drop next s) ≡ (if ltb (digit_of (get_or s next 0)) 16 then take_hex (16 - (i + 1)) (v * 16 + digit_of (get_or s next 0)) (drop (next + 1) s) else none)
-unfolding take_hex
-hex-step i v next s h l = let e : 16 - i ≡ suc (16 - (i + 1)) = omega arith in rw (e, front s next l)
-
-pub hex-fits : (i v d : ℕ) → i < 16 → v < 16 ^ i → d < 16 → (v * 16 + d < 16 ^ (i + 1)) × (v * 16 + d < 2 ^ 64)
-hex-fits i v d h l m =
-    let e : 16 ^ (i + 1) ≡ 16 ^ i * 16 = rw add-one (pow-suc 16 i) in
-    let t : 16 ^ (i + 1) ≤ 16 ^ 16 = pow-le-pow_right {n = 16} (omega arith) {i = i + 1} {j = 16} (omega arith) in
-    (omega arith, omega arith)
+    go : (d : ℕ) × (hex_digit b ≡ Some d) × (take_hex j (u * 16 + d) bs ≡ Some (v, rest))
+        → ((d : ℕ) → d < 16 → take_hex j (u * 16 + d) bs ≡ Some (v, rest) → (v < 16 ^ (suc k + j)) × (hex_in (suc k) (u * 16 + d) ++ bs ≡ hex_in (suc k + j) v ++ rest))
+        → (v < 16 ^ (suc k + j)) × (hex_in k u ++ (b ∷ bs) ≡ hex_in (suc k + j) v ++ rest)
+    go (d, t, q) ih =
+        let g = glyph-hex b d t in
+        let i = ih d g.0 q in
+        let a : (u * 16 + d) / 16 ≡ u = omega (arith, g.0) in
+        let m : (u * 16 + d) % 16 ≡ d = omega (arith, g.0) in
+        (i.0, rw (a, m, append_assoc, g.1) at i.1)
 
 -- the 16 digits
-pub hex16-there : (v : ℕ) (rest : List ℕ) → v < 2 ^ 64 → take_hex 16 0 (print_hex16 v ++ rest) ≡ got v rest
+pub hex16-there : (v : ℕ) (rest : List ℕ) → v < 2 ^ 64 → take_hex 16 0 (print_hex16 v ++ rest) ≡ Some (v, rest)
 unfolding take_hex
 hex16-there v rest h = hex-there 16 0 v rest (omega arith)
 
-pub hex16-back : (bs : List ℕ) (v : ℕ) (rest : List ℕ) → take_hex 16 0 bs ≡ got v rest → (v < 2 ^ 64) × (bs ≡ print_hex16 v ++ rest)
+pub hex16-back : (bs : List ℕ) (v : ℕ) (rest : List ℕ) → take_hex 16 0 bs ≡ Some (v, rest) → (v < 2 ^ 64) × (bs ≡ print_hex16 v ++ rest)
 unfolding hex_in
 hex16-back bs v rest e = let b = hex-back 16 0 0 bs v rest (omega arith) e in (omega arith, b.1)
+
+-- ---- the loop over the hexadecimal digits: i of them are behind it
+pub hex_short : (k v : ℕ) (bs : List ℕ) → length bs < k → take_hex k v bs ≡ None
+unfolding take_hex
+hex_short zero v bs h = absurd (omega arith)
+hex_short (suc k) v [] h = refl
+hex_short (suc k) v (b ∷ bs) h = go (hex_digit b) (λ d. hex_short k (v * 16 + d) bs (omega arith))
+  where
+    go : (o : Option ℕ) → ((d : ℕ) → take_hex k (v * 16 + d) bs ≡ None) → option_and_then (λ d. take_hex k (v * 16 + d) bs) o ≡ None
+    go None ih = refl
+    go (Some d) ih = ih d
+
+front : (s : List ℕ) (i : ℕ) → i < length s → drop i s ≡ get_or s i 0 ∷ drop (i + 1) s
+front s i h = rw add-one (drop-cons s i 0 h)
+
+pub hex-turn : (i v : ℕ) (s digits : List ℕ) → digits ≡ take 16 s → i < 16 → 16 ≤ length s
+    → take_hex (16 - i) v (drop i s) ≡ option_and_then (λ d. take_hex (16 - (i + 1)) (v * 16 + d) (drop (i + 1) s)) (hex_digit (get_or digits i 0))
+unfolding take_hex
+hex-turn i v s digits e h l =
+    let n : 16 - i ≡ suc (16 - (i + 1)) = omega arith in
+    rw (n, front s i (omega arith), e, get_or-take 16 s i 0 h)
+
+pub hex-fits : (i v b d : ℕ) → i < 16 → v < 16 ^ i → Some d ≡ hex_digit b → (v * 16 + d < 16 ^ (i + 1)) × (v * 16 + d < 2 ^ 64)
+hex-fits i v b d h l t =
+    let g = glyph-hex b d (sym t) in
+    let e : 16 ^ (i + 1) ≡ 16 ^ i * 16 = rw add-one (pow-suc 16 i) in
+    let t : 16 ^ (i + 1) ≤ 16 ^ 16 = pow-le-pow_right {n = 16} (omega arith) {i = i + 1} {j = 16} (omega arith) in
+    (omega (arith, g.0), omega (arith, g.0))

@@ -4,7 +4,8 @@ use Rattle.error.specs.Choice.{bit}
 use Rattle.lines.specs.declared.Call.{Call}
 use Rattle.lines.specs.declared.Call.TheVariants.{Admit, Success, Failure, Abort, Reset}
 use Rattle.lines.specs.declared.Header.{Header}
-use Rattle.lines.specs.declared.Header.TheVariants.{Consecutive, Ratio, Windowed}
+use Rattle.lines.specs.declared.HeaderPolicy.{HeaderPolicy}
+use Rattle.lines.specs.declared.HeaderPolicy.TheVariants.{Consecutive, Ratio, Windowed}
 
 -- ---- numbers. "Decimals have no leading zero, hex is lower case."
 
@@ -41,12 +42,15 @@ print_fields (v ∷ vs) = 32 ∷ (print_decimal v ++ print_fields vs)
 abbrev pub print_line : ℕ → List ℕ → List ℕ
 print_line letter vs = letter ∷ (print_fields vs ++ (10 ∷ []))
 
--- "Line 1: `C n`, `R window bits min` (16 hex digits) or `W failures period`, then cooldown ms, trials, required"
+-- "Line 1: `C n`, `R window bits min` (16 hex digits) or `W failures period`, …
+unfoldable pub print_policy : HeaderPolicy → List ℕ
+print_policy (Consecutive n) = 67 ∷ print_fields (n ∷ [])
+print_policy (Ratio window bits least) = 82 ∷ (print_fields (window ∷ []) ++ (32 ∷ (print_hex16 bits ++ print_fields (least ∷ []))))
+print_policy (Windowed failures period) = 87 ∷ print_fields (failures ∷ period ∷ [])
+
+-- … then cooldown ms, trials, required"
 unfoldable pub print_header : Header → List ℕ
-print_header (Consecutive n cooldown trials required) = print_line 67 (n ∷ cooldown ∷ trials ∷ required ∷ [])
-print_header (Ratio window bits least cooldown trials required) =
-    82 ∷ 32 ∷ (print_decimal window ++ (32 ∷ (print_hex16 bits ++ (print_fields (least ∷ cooldown ∷ trials ∷ required ∷ []) ++ (10 ∷ [])))))
-print_header (Windowed failures period cooldown trials required) = print_line 87 (failures ∷ period ∷ cooldown ∷ trials ∷ required ∷ [])
+print_header h = print_policy h.policy ++ (print_fields (h.cooldown_ms ∷ h.trials ∷ h.required ∷ []) ++ (10 ∷ []))
 
 -- "Each further line: reading, then `A` admit, `S`, `F`, `X` (success, failure, abort; then generation and probe 0/1) or `Z` reset."
 abbrev pub reading_of : Call → ℕ
@@ -82,7 +86,10 @@ AllFit (v ∷ vs) = (v < 2 ^ 64) × AllFit vs
 abbrev pub CallFits : Call → Type 0
 CallFits c = AllFit (reading_of c ∷ fields_of c)
 
+abbrev pub PolicyFits : HeaderPolicy → Type 0
+PolicyFits (Consecutive n) = n < 2 ^ 32
+PolicyFits (Ratio w b m) = (w < 2 ^ 32) × (b < 2 ^ 64) × (m < 2 ^ 32)
+PolicyFits (Windowed f p) = (f < 2 ^ 32) × (p < 2 ^ 64)
+
 abbrev pub HeaderFits : Header → Type 0
-HeaderFits (Consecutive n c t r) = (n < 2 ^ 32) × (c < 2 ^ 64) × (t < 2 ^ 32) × (r < 2 ^ 32)
-HeaderFits (Ratio w b m c t r) = (w < 2 ^ 32) × (b < 2 ^ 64) × (m < 2 ^ 32) × (c < 2 ^ 64) × (t < 2 ^ 32) × (r < 2 ^ 32)
-HeaderFits (Windowed f p c t r) = (f < 2 ^ 32) × (p < 2 ^ 64) × (c < 2 ^ 64) × (t < 2 ^ 32) × (r < 2 ^ 32)
+HeaderFits h = PolicyFits h.policy × (h.cooldown_ms < 2 ^ 64) × (h.trials < 2 ^ 32) × (h.required < 2 ^ 32)

@@ -1,175 +1,128 @@
 -- Internal: what the readers take from the front of a list of bytes. The promises of Reads follow from it by laws, so nobody need believe it.
-use Rattle.std.specs.Prelude.{ℕ, zero, suc, ◌+◌, ◌*◌, ◌-◌, ◌^◌, ◌≤◌, Bool, ◌&&◌, List, [], ◌∷◌, ◌++◌, drop, get_or, ltb, leb, eqb, if◌then◌else◌}
-use Rattle.lines.specs.Print.{print_decimal, print_hex16}
-use Rattle.lines.specs.declared.Number.{Number}
-use Rattle.lines.specs.declared.Number.TheVariants.{Value, Bad}
-use Rattle.lines.specs.declared.Place.{Place}
-use Rattle.lines.specs.declared.Place.TheVariants.{At, Nowhere}
+use Rattle.std.specs.Prelude.{ℕ, zero, suc, ◌+◌, ◌*◌, ◌-◌, ◌^◌, Bool, ◌&&◌, List, [], ◌∷◌, Option, Some, None, option_map, option_and_then, ltb, leb, eqb, if◌then◌else◌}
 use Rattle.lines.specs.declared.Call.{Call}
 use Rattle.lines.specs.declared.Call.TheVariants.{Admit, Success, Failure, Abort, Reset}
-use Rattle.lines.specs.declared.ReadCall.{ReadCall}
-use Rattle.lines.specs.declared.ReadCall.TheVariants as ReadCallIs
 use Rattle.lines.specs.declared.Header.{Header}
-use Rattle.lines.specs.declared.Header.TheVariants.{Consecutive, Ratio, Windowed}
-use Rattle.lines.specs.declared.ReadHeader.{ReadHeader}
-use Rattle.lines.specs.declared.ReadHeader.TheVariants as ReadHeaderIs
-
--- a value and what stands after it, or nothing
-pub data Taken (A : Type 0) : Type 0 where
-  got : A → List ℕ → Taken A
-  none : Taken A
+use Rattle.lines.specs.declared.HeaderPolicy.{HeaderPolicy}
+use Rattle.lines.specs.declared.HeaderPolicy.TheVariants.{Consecutive, Ratio, Windowed}
+use Rattle.lines.specs.Reads.{Read}
 
 -- one reader after another
-abbrev pub bound : {A B : Type 0} → Taken A → (A → List ℕ → Taken B) → Taken B
-bound (got a rest) f = f a rest
-bound none f = none
+infixl 10 ◌>>=◌
+abbrev pub ◌>>=◌ : {A B : Type 0} → Option A → (A → Option B) → Option B
+o >>= f = option_and_then f o
+
+-- what follows this byte at the front
+unfoldable pub after : ℕ → List ℕ → Option (List ℕ)
+after byte [] = None
+after byte (b ∷ bs) = if eqb b byte then Some bs else None
 
 -- ---- numbers
 
--- the digit that a byte is, or 16
-unfoldable pub digit_of : ℕ → ℕ
-digit_of b =
-    if ltb b 48 then 16
-    else if ltb b 58 then b - 48
-    else if ltb b 97 then 16
-    else if ltb b 103 then b - 87
-    else 16
+-- whether a byte is a decimal digit
+abbrev pub is_decimal : ℕ → Bool
+is_decimal b = leb 48 b && leb b 57
 
--- whether d is a decimal digit, and v with d put behind it is at most limit
-unfoldable pub room_for : ℕ → ℕ → ℕ → Bool
-room_for limit v d = ltb d 10 && leb (v * 10 + d) limit
-
--- the digits that there is room for, behind v
-unfoldable pub take_digits : ℕ → ℕ → List ℕ → Taken ℕ
-take_digits limit v [] = got v []
-take_digits limit v (b ∷ bs) = if room_for limit v (digit_of b) then take_digits limit (v * 10 + digit_of b) bs else got v (b ∷ bs)
+-- the digits behind v, where the number that they make stays below 2 ^ 64
+unfoldable pub take_digits : ℕ → List ℕ → Read ℕ
+take_digits v [] = Some (v, [])
+take_digits v (b ∷ bs) =
+    if is_decimal b then (if ltb (v * 10 + (b - 48)) (2 ^ 64) then take_digits (v * 10 + (b - 48)) bs else None)
+    else Some (v, b ∷ bs)
 
 -- a decimal; behind a first digit 0 nothing more is taken
-unfoldable pub take_number : ℕ → List ℕ → Taken ℕ
-take_number limit [] = none
-take_number limit (b ∷ bs) =
-    if room_for limit 0 (digit_of b) then (if eqb (digit_of b) 0 then got 0 bs else take_digits limit (digit_of b) bs)
-    else none
+unfoldable pub take_decimal : List ℕ → Read ℕ
+take_decimal [] = None
+take_decimal (b ∷ bs) = if eqb b 48 then Some (0, bs) else if is_decimal b then take_digits 0 (b ∷ bs) else None
+
+-- the value of a digit, in lower case
+unfoldable pub hex_digit : ℕ → Option ℕ
+hex_digit b = if leb 48 b && leb b 57 then Some (b - 48) else if leb 97 b && leb b 102 then Some (b - 87) else None
 
 -- k hexadecimal digits, behind v
-unfoldable pub take_hex : ℕ → ℕ → List ℕ → Taken ℕ
-take_hex zero v bs = got v bs
-take_hex (suc k) v [] = none
-take_hex (suc k) v (b ∷ bs) = if ltb (digit_of b) 16 then take_hex k (v * 16 + digit_of b) bs else none
+unfoldable pub take_hex : ℕ → ℕ → List ℕ → Read ℕ
+take_hex zero v bs = Some (v, bs)
+take_hex (suc k) v [] = None
+take_hex (suc k) v (b ∷ bs) = hex_digit b >>= (λ d. take_hex k (v * 16 + d) bs)
 
--- what a reader of s says it took
-abbrev pub seen : List ℕ → Number → Taken ℕ
-seen s (Value v next) = got v (drop next s)
-seen s Bad = none
+-- ---- fields: a space and a number
 
--- ---- fields. A field's limit is the greatest decimal that it holds; 0 stands for 16 hexadecimal digits.
+unfoldable pub take_field : List ℕ → Read ℕ
+take_field bs = after 32 bs >>= take_decimal
 
-abbrev pub max32 : ℕ
-max32 = 2 ^ 32 - 1
+unfoldable pub take_narrow : List ℕ → Read ℕ
+take_narrow bs = take_field bs >>= (λ p. if ltb p.0 (2 ^ 32) then Some p else None)
 
-abbrev pub max64 : ℕ
-max64 = 2 ^ 64 - 1
+unfoldable pub take_bits : List ℕ → Read ℕ
+take_bits bs = after 32 bs >>= take_hex 16 0
 
-abbrev pub top : ℕ → ℕ
-top l = if eqb l 0 then max64 else l
-
-abbrev pub print_as : ℕ → ℕ → List ℕ
-print_as l v = if eqb l 0 then print_hex16 v else print_decimal v
-
-unfoldable pub print_all : List ℕ → List ℕ → List ℕ
-print_all [] vs = []
-print_all (l ∷ ls) [] = []
-print_all (l ∷ ls) (v ∷ vs) = 32 ∷ (print_as l v ++ print_all ls vs)
-
--- a space and a number
-unfoldable pub take_field : ℕ → List ℕ → Taken ℕ
-take_field l [] = none
-take_field l (b ∷ bs) = if eqb b 32 then (if eqb l 0 then take_hex 16 0 bs else take_number l bs) else none
-
--- values put before those that were taken
-abbrev pub ahead : List ℕ → Taken (List ℕ) → Taken (List ℕ)
-ahead vs t = bound t (λ ws rest. got (vs ++ ws) rest)
-
--- a field for each limit, and the line feed
-unfoldable pub take_rest : List ℕ → List ℕ → Taken (List ℕ)
-take_rest [] [] = none
-take_rest [] (b ∷ bs) = if eqb b 10 then got [] bs else none
-take_rest (l ∷ ls) bs = bound (take_field l bs) (λ v rest. ahead (v ∷ []) (take_rest ls rest))
-
-abbrev pub seen_all : List ℕ → List ℕ → Place → Taken (List ℕ)
-seen_all s vs (At next) = got vs (drop next s)
-seen_all s vs Nowhere = none
-
--- the place after the fields, 0 where there is none
-abbrev pub place_end : Place → ℕ
-place_end (At next) = next
-place_end Nowhere = 0
-
--- each value within its limit
-abbrev pub Within : List ℕ → List ℕ → Type 0
-Within [] [] = Unit
-Within [] (v ∷ vs) = ⊥
-Within (l ∷ ls) [] = ⊥
-Within (l ∷ ls) (v ∷ vs) = (v ≤ top l) × Within ls vs
+unfoldable pub take_ticket : List ℕ → Read (ℕ × Bool)
+take_ticket bs = do
+  generation ← take_field bs
+  flag ← take_field generation.1
+  if leb flag.0 1 then Some ((generation.0, eqb flag.0 1), flag.1) else None
 
 -- ---- lines
 
--- the limits of the fields behind a letter: C, R, W, then A and Z, then the calls with a ticket
-unfoldable pub limits_of : ℕ → List ℕ
-limits_of k =
-    if eqb k 67 then max32 ∷ max64 ∷ max32 ∷ max32 ∷ []
-    else if eqb k 82 then max32 ∷ 0 ∷ max32 ∷ max64 ∷ max32 ∷ max32 ∷ []
-    else if eqb k 87 then max32 ∷ max64 ∷ max64 ∷ max32 ∷ max32 ∷ []
-    else if eqb k 65 then []
-    else if eqb k 90 then []
-    else max64 ∷ 1 ∷ []
+-- the call of a reading, a letter and a ticket
+abbrev pub with_ticket : ℕ → ℕ → ℕ × Bool → Option Call
+with_ticket t k p =
+    if eqb k 83 then Some (Success t p.0 p.1)
+    else if eqb k 70 then Some (Failure t p.0 p.1)
+    else if eqb k 88 then Some (Abort t p.0 p.1)
+    else None
 
--- the call of a reading, a letter and the values behind it
-abbrev pub made_call : ℕ → ℕ → ℕ → Bool → List ℕ → Taken Call
-made_call t k g p rest =
-    if eqb k 65 then got (Admit t) rest
-    else if eqb k 83 then got (Success t g p) rest
-    else if eqb k 70 then got (Failure t g p) rest
-    else if eqb k 88 then got (Abort t g p) rest
-    else if eqb k 90 then got (Reset t) rest
-    else none
+abbrev pub take_ticketed : ℕ → ℕ → List ℕ → Read Call
+take_ticketed t k bs = take_ticket bs >>= (λ p. option_map (λ c. (c, p.1)) (with_ticket t k p.0))
 
-unfoldable pub take_kind : ℕ → List ℕ → Taken Call
-take_kind t [] = none
-take_kind t (k ∷ bs) = bound (take_rest (limits_of k) bs) (λ vs rest. made_call t k (get_or vs 0 0) (eqb (get_or vs 1 0) 1) rest)
+-- the call of a reading: its letter, and its ticket where it has one
+unfoldable pub take_order : ℕ → List ℕ → Read Call
+take_order t [] = None
+take_order t (k ∷ bs) =
+    if eqb k 65 then Some (Admit t, bs)
+    else if eqb k 90 then Some (Reset t, bs)
+    else take_ticketed t k bs
 
-unfoldable pub take_letter : ℕ → List ℕ → Taken Call
-take_letter t [] = none
-take_letter t (b ∷ bs) = if eqb b 32 then take_kind t bs else none
+unfoldable pub take_call : List ℕ → Read Call
+take_call bs = do
+  reading ← take_decimal bs
+  order ← after 32 reading.1
+  call ← take_order reading.0 order
+  rest ← after 10 call.1
+  Some (call.0, rest)
 
-unfoldable pub take_call : List ℕ → Taken Call
-take_call bs = bound (take_number max64 bs) take_letter
+-- the policy: its letter and its own fields
+unfoldable pub take_consecutive : List ℕ → Read HeaderPolicy
+take_consecutive bs = do
+  n ← take_narrow bs
+  Some (Consecutive n.0, n.1)
 
-abbrev pub seen_call : List ℕ → ReadCall → Taken Call
-seen_call s (ReadCallIs.Is c next) = got c (drop next s)
-seen_call s ReadCallIs.Malformed = none
+unfoldable pub take_ratio : List ℕ → Read HeaderPolicy
+take_ratio bs = do
+  window ← take_narrow bs
+  bits ← take_bits window.1
+  least ← take_narrow bits.1
+  Some (Ratio window.0 bits.0 least.0, least.1)
 
--- the place after the line, 0 where there is none
-abbrev pub call_end : ReadCall → ℕ
-call_end (ReadCallIs.Is c next) = next
-call_end ReadCallIs.Malformed = 0
+unfoldable pub take_windowed : List ℕ → Read HeaderPolicy
+take_windowed bs = do
+  failures ← take_narrow bs
+  period ← take_field failures.1
+  Some (Windowed failures.0 period.0, period.1)
 
--- the header of a letter and the values behind it
-abbrev pub made_header : ℕ → List ℕ → List ℕ → Taken Header
-made_header k vs rest =
-    if eqb k 67 then got (Consecutive (get_or vs 0 0) (get_or vs 1 0) (get_or vs 2 0) (get_or vs 3 0)) rest
-    else if eqb k 82 then got (Ratio (get_or vs 0 0) (get_or vs 1 0) (get_or vs 2 0) (get_or vs 3 0) (get_or vs 4 0) (get_or vs 5 0)) rest
-    else if eqb k 87 then got (Windowed (get_or vs 0 0) (get_or vs 1 0) (get_or vs 2 0) (get_or vs 3 0) (get_or vs 4 0)) rest
-    else none
+unfoldable pub take_policy : List ℕ → Read HeaderPolicy
+take_policy [] = None
+take_policy (k ∷ bs) =
+    if eqb k 67 then take_consecutive bs
+    else if eqb k 82 then take_ratio bs
+    else if eqb k 87 then take_windowed bs
+    else None
 
-unfoldable pub take_header : List ℕ → Taken Header
-take_header [] = none
-take_header (k ∷ bs) = bound (take_rest (limits_of k) bs) (λ vs rest. made_header k vs rest)
-
-abbrev pub seen_header : List ℕ → ReadHeader → Taken Header
-seen_header s (ReadHeaderIs.Is h next) = got h (drop next s)
-seen_header s ReadHeaderIs.Malformed = none
-
-abbrev pub header_end : ReadHeader → ℕ
-header_end (ReadHeaderIs.Is h next) = next
-header_end ReadHeaderIs.Malformed = 0
+unfoldable pub take_header : List ℕ → Read Header
+take_header bs = do
+  policy ← take_policy bs
+  cooldown ← take_field policy.1
+  trials ← take_narrow cooldown.1
+  required ← take_narrow trials.1
+  rest ← after 10 required.1
+  Some (record { policy = policy.0; cooldown_ms = cooldown.0; trials = trials.0; required = required.0 }, rest)

@@ -1,53 +1,64 @@
 // The header's line.
-ghost use Rattle.std.specs.Prelude.{◌≡◌, ℕ, ◌≤◌, List, length, take, drop};
-ghost use Rattle.lines.specs.Take.{limits_of, Within, made_header, take_header, seen_header, header_end};
+ghost use Rattle.std.specs.Prelude.{◌≡◌};
+ghost use Rattle.lines.specs.Reads.{seen};
+ghost use Rattle.lines.specs.Take.{take_policy, take_header};
 
-use crate::values::read_values;
-use crate::{Header, Place, ReadHeader};
+use crate::values::{read_bits, read_field, read_narrow};
+use crate::{Header, HeaderPolicy};
 
-// The header of a letter and its values, whose line ends at `next`.
-fn header_of(letter: u8, v: &[u64; 6], next: usize) -> ReadHeader
-    requires { Within (limits_of letter) (take (length (limits_of letter)) v.now) }
-    ensures by_index { (s : List ℕ) → seen_header s result ≡ made_header letter v.now (drop next s) }
-    ensures result_bound { header_end result ≤ next }
+// The policy at the front: its letter and its own fields.
+#[tactic(auto, unfolding(crate::specs::Take::take_policy, crate::specs::Take::take_consecutive, crate::specs::Take::take_ratio, crate::specs::Take::take_windowed))]
+fn read_policy(s: &[u8]) -> Option<(HeaderPolicy, &[u8])>
+    ensures { seen result ≡ take_policy s.now }
 {
-    match letter {
-        b'C' => ReadHeader::Is(
-            Header::Consecutive(v[0] as u32, v[1], v[2] as u32, v[3] as u32),
-            next,
-        ),
-        b'R' => ReadHeader::Is(
-            Header::Ratio(
-                v[0] as u32,
-                v[1],
-                v[2] as u32,
-                v[3],
-                v[4] as u32,
-                v[5] as u32,
-            ),
-            next,
-        ),
-        b'W' => ReadHeader::Is(
-            Header::Windowed(v[0] as u32, v[1], v[2], v[3] as u32, v[4] as u32),
-            next,
-        ),
-        _ => ReadHeader::Malformed,
+    match s {
+        [b'C', s @ ..] => {
+            let (n, s) = read_narrow(s)?;
+            Some((HeaderPolicy::Consecutive(n), s))
+        }
+        [b'R', s @ ..] => {
+            let (window, s) = read_narrow(s)?;
+            let (bits, s) = read_bits(s)?;
+            let (min_calls, s) = read_narrow(s)?;
+            Some((
+                HeaderPolicy::Ratio {
+                    window,
+                    bits,
+                    min_calls,
+                },
+                s,
+            ))
+        }
+        [b'W', s @ ..] => {
+            let (failures, s) = read_narrow(s)?;
+            let (period_ms, s) = read_field(s)?;
+            Some((
+                HeaderPolicy::Windowed {
+                    failures,
+                    period_ms,
+                },
+                s,
+            ))
+        }
+        _ => None,
     }
 }
 
-// The header at `at`: its letter and what follows it.
-pub(crate) fn take_header(s: &[u8], at: usize) -> ReadHeader
-    ensures result_value { seen_header s.now result ≡ take_header (drop at s.now) }
-    ensures result_in_bounds { header_end result ≤ length s.now }
+// The header at the front: its policy, what every header has, and the line feed.
+#[tactic(auto, using(crate::proofs::After::stripped), unfolding(crate::specs::Take::take_header))]
+pub(crate) fn take_header(s: &[u8]) -> Option<(Header, &[u8])>
+    ensures { seen result ≡ take_header s.now }
 {
-    if at >= s.len() {
-        return ReadHeader::Malformed;
-    }
-    let letter = s[at];
-    let mut values = [0u64; 6];
-    let place = read_values(s, at + 1, letter, &mut values);
-    let Place::At(end) = place else {
-        return ReadHeader::Malformed;
+    let (policy, s) = read_policy(s)?;
+    let (cooldown_ms, s) = read_field(s)?;
+    let (trials, s) = read_narrow(s)?;
+    let (required, s) = read_narrow(s)?;
+    let rest = s.strip_prefix(b"\n")?;
+    let header = Header {
+        policy,
+        cooldown_ms,
+        trials,
+        required,
     };
-    header_of(letter, &values, end)
+    Some((header, rest))
 }

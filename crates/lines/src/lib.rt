@@ -1,7 +1,7 @@
-// The archive journal's lines: a header or a call, read from the bytes.
+// The archive journal's lines: a header or a call, read from the bytes. Each reader answers a value and what is left of the bytes.
 #![tactic(auto)]
 
-ghost use Rattle.lines.specs.Reads.{CallRead, HeaderRead};
+ghost use Rattle.lines.specs.Reads.{seen, CallRead, HeaderRead};
 
 mod calls;
 mod digits;
@@ -14,68 +14,65 @@ use headers::take_header;
 // A call of the journal: its reading, then generation and probe flag of its ticket.
 #[derive(Clone, Copy)]
 pub enum Call {
-    Admit(u64),
-    Success(u64, u64, bool),
-    Failure(u64, u64, bool),
-    Abort(u64, u64, bool),
-    Reset(u64),
+    Admit {
+        reading: u64,
+    },
+    Success {
+        reading: u64,
+        generation: u64,
+        probe: bool,
+    },
+    Failure {
+        reading: u64,
+        generation: u64,
+        probe: bool,
+    },
+    Abort {
+        reading: u64,
+        generation: u64,
+        probe: bool,
+    },
+    Reset {
+        reading: u64,
+    },
 }
 
-// The first line. Ratio: window, bits, minimum calls. Windowed: failures, period. Then cooldown, trials, required; times in milliseconds.
+// A header's policy; the ratio by its bits.
 #[derive(Clone, Copy)]
-pub enum Header {
-    Consecutive(u32, u64, u32, u32),
-    Ratio(u32, u64, u32, u64, u32, u32),
-    Windowed(u32, u64, u64, u32, u32),
+pub enum HeaderPolicy {
+    Consecutive(u32),
+    Ratio {
+        window: u32,
+        bits: u64,
+        min_calls: u32,
+    },
+    Windowed {
+        failures: u32,
+        period_ms: u64,
+    },
 }
 
-// A call and the place after its line.
+// The first line.
 #[derive(Clone, Copy)]
-pub enum ReadCall {
-    Is(Call, usize),
-    Malformed,
+pub struct Header {
+    pub policy: HeaderPolicy,
+    pub cooldown_ms: u64,
+    pub trials: u32,
+    pub required: u32,
 }
 
-// A header and the place after its line.
-#[derive(Clone, Copy)]
-pub enum ReadHeader {
-    Is(Header, usize),
-    Malformed,
-}
-
-// A number and the place after it.
-#[derive(Clone, Copy)]
-enum Number {
-    Value { value: u64, next: usize },
-    Bad,
-}
-
-// The place after a line.
-#[derive(Clone, Copy)]
-enum Place {
-    At(usize),
-    Nowhere,
-}
-
-// The fields of a line: how many, and the greatest number that each holds. A limit of 0 stands for 16 hexadecimal digits.
-#[derive(Clone, Copy)]
-struct Limits {
-    count: usize,
-    of: [u64; 6],
-}
-
-// The call whose line stands at `at`, with its line feed.
+// The call whose line stands at the front, with its line feed, and what is left.
 // Ruled out: one that takes a leading zero; one that takes a number too wide for its field.
-pub fn read_call(s: &[u8], at: usize) -> ReadCall
-    ensures { CallRead s.now at result }
+pub fn read_call(s: &[u8]) -> Option<(Call, &[u8])>
+    ensures { CallRead s.now (seen result) }
 {
-    take_call(s, at)
+    take_call(s)
 }
 
-// The header whose line stands at `at`, with its line feed.
+// The header whose line stands at the front, with its line feed, and what is left.
 // Ruled out: one that takes upper-case digits; one that takes 15 of them.
-pub fn read_header(s: &[u8], at: usize) -> ReadHeader
-    ensures { HeaderRead s.now at result }
+pub fn read_header(s: &[u8]) -> Option<(Header, &[u8])>
+    ensures { HeaderRead s.now (seen result) }
 {
-    take_header(s, at)
+    take_header(s)
 }

@@ -1,19 +1,17 @@
 -- What is decided of an outcome, from the tests that led to it. Assumes nothing.
---     decides-good, decides-full, decides-counted   by what is recorded, for any policy
+--     decides-*, failure-counted                    by what is recorded, for any policy
 --     run-*, outcome-*, time-*                      each policy
---     half-*                                        HalfOpen
 --     store_nothing, store-items                    the list stored
-use mathlib.Core.Path.{◌≡◌, refl, sym, ap, ◌∙◌}
+use mathlib.Core.Path.{◌≡◌, refl, sym, ap, subst, ◌∙◌}
 use mathlib.Core.Bool.{Bool, true, false}
 use mathlib.Core.List.{List, [], ◌∷◌, ◌++◌, append-nil}
 use Prim.Native.Nat.{ℕ, ◌+◌, ◌-◌, ◌%◌, ◌^◌, ◌≤◌, ◌<◌, min}
-use native.Mathlib.Nat.{sub-zero}
 use native.Mathlib.Omega.{arith}
 use lib.Dec.{eqb, leb}
 use lib.Ieee.{Float, binary64, of_bits}
 use lib.ListN.{length, drop, length-append, length-drop, drop_of_length-le}
 use borrow.Author.Tests.{le-leb, lt-leb, eqb-true}
-use Rattle.std.proofs.Common.{if◌then◌else◌}
+use Rattle.std.proofs.Common.{if◌then◌else◌, Ok, Err}
 use Rattle.error.specs.Choice.{bit}
 use Rattle.error.specs.declared.Refusal.TheVariants.{Full}
 use Rattle.history.specs.declared.Items.TheVariants.{Nothing, Outcomes, Times}
@@ -25,14 +23,13 @@ use Rattle.history.proofs.Held.{replaced-held, failures-le, failures-held}
 use Rattle.history.proofs.Recorded.{outcome-is, outcome-failures, time-is, time-recent}
 use Rattle.trip.specs.declared.Config.{Config}
 use Rattle.trip.specs.Policy.{Consecutive, Ratio, Windowed, policy_of, ratio_reached, tripped}
-use Rattle.breaker.specs.declared.Counts.{Counts}
-use Rattle.breaker.specs.declared.Ticket.{Ticket}
 use Rattle.breaker.specs.declared.Breaker.{Breaker}
-use Rattle.breaker.specs.Record.{Settings, State, settings, stored, items_for, items_of, sound}
-use Rattle.breaker.specs.Rules.{probes, less_counts, with_counts, opening, closing, recorded, no_room, in_half_open, in_closed}
+use Rattle.breaker.specs.Record.{Settings, State, items_for, items_of, sound}
+use Rattle.breaker.specs.Rules.{recorded, no_room, in_closed}
 use Rattle.breaker.proofs.Record.{sound→}
 use Rattle.outcomes.specs.declared.Change.{Change}
-use Rattle.outcomes.specs.declared.Recorded.TheVariants.{Refused, Counted}
+use Rattle.outcomes.specs.declared.Recorded.{Recorded}
+use Rattle.outcomes.specs.declared.Recorded.TheVariants.{Counted}
 use Rattle.steps.specs.Steps.{Holds}
 use Rattle.outcomes.specs.Decide.{appended, changed, counted_as, Decides}
 
@@ -42,21 +39,26 @@ change gone run len = record { gone = gone; run = run; len = len }
 -- ---- for any policy
 module _ (s : Settings) (reading : ℕ) (st : State) where
   pub decides-good : (gone len : ℕ) → recorded s.policy false reading st.list ≡ changed s.policy false reading gone st.list
-      → len ≡ length (changed s.policy false reading gone st.list) → Decides s reading true st (Counted (change gone 0 len))
+      → len ≡ length (changed s.policy false reading gone st.list) → Decides s reading true st (Ok (Counted (change gone 0 len)))
   unfolding in_closed
   decides-good gone len e l = (l, rw e)
 
-  pub decides-full : no_room s.policy reading st.list ≡ true → Decides s reading false st (Refused Full)
+  pub decides-full : no_room s.policy reading st.list ≡ true → Decides s reading false st (Err Full)
   unfolding in_closed
   decides-full f = rw f
 
   pub decides-counted : (gone run len : ℕ) (trips : Bool) → no_room s.policy reading st.list ≡ false
       → recorded s.policy true reading st.list ≡ changed s.policy true reading gone st.list → run ≡ min (st.run + 1) (2 ^ 32 - 1)
       → len ≡ length (changed s.policy true reading gone st.list) → trips ≡ tripped s.policy reading run (changed s.policy true reading gone st.list)
-      → Decides s reading false st (counted_as (change gone run len) trips)
+      → Decides s reading false st (Ok (counted_as (change gone run len) trips))
   unfolding in_closed
   decides-counted gone run len true f e r l t = (l, rw (f, e, ← r, ← t))
   decides-counted gone run len false f e r l t = (l, rw (f, e, ← r, ← t))
+
+  -- a failure is counted
+  pub failure-counted : (good trips : Bool) (x : Change) (r : Recorded) → r ≡ counted_as x trips → good ≡ false → Decides s reading false st (Ok (counted_as x trips))
+      → Decides s reading good st (Ok r)
+  failure-counted good trips x r e g d = subst (λ (v : Bool). Decides s reading v st (Ok r)) (sym g) (rw e d)
 
 -- ---- the settings' policy
 module _ (c : Config) where
@@ -99,11 +101,11 @@ module _ (s : Settings) (st : State) (reading : ℕ) where
     stays : (failed : Bool) → recorded s.policy failed reading st.list ≡ changed s.policy failed reading 0 st.list
     stays failed = rw p (sym (append-nil st.list))
 
-    pub run-good : (len : ℕ) → len ≡ length st.list → Decides s reading true st (Counted (change 0 0 len))
+    pub run-good : (len : ℕ) → len ≡ length st.list → Decides s reading true st (Ok (Counted (change 0 0 len)))
     run-good len l = decides-good s reading st 0 len (stays false) (l ∙ ap length (sym (as_it_was false)))
 
     pub run-failed : (run len : ℕ) (trips : Bool) → run ≡ min (st.run + 1) (2 ^ 32 - 1) → len ≡ length st.list → trips ≡ leb n run
-        → Decides s reading false st (counted_as (change 0 run len) trips)
+        → Decides s reading false st (Ok (counted_as (change 0 run len) trips))
     unfolding tripped
     run-failed run len trips r l t = decides-counted s reading st 0 run len trips (rw p) (stays true) r (l ∙ ap length (sym (as_it_was true))) (rw p t)
 
@@ -115,11 +117,11 @@ module _ (s : Settings) (st : State) (reading : ℕ) where
     outcome-length : (failed : Bool) → length (changed s.policy failed reading gone st.list) ≡ length st.list - gone + 1
     outcome-length failed = rw p (simp (length-append, length-drop))
 
-    pub outcome-good : (len : ℕ) → len ≡ length st.list - gone + 1 → Decides s reading true st (Counted (change gone 0 len))
+    pub outcome-good : (len : ℕ) → len ≡ length st.list - gone + 1 → Decides s reading true st (Ok (Counted (change gone 0 len)))
     outcome-good len l = decides-good s reading st gone len (outcome-records false) (l ∙ sym (outcome-length false))
 
     pub outcome-failed : (run len failed : ℕ) (trips : Bool) → run ≡ min (st.run + 1) (2 ^ 32 - 1) → len ≡ length st.list - gone + 1
-        → failed ≡ failures (drop gone st.list) + 1 → trips ≡ ratio_reached failed len m q → Decides s reading false st (counted_as (change gone run len) trips)
+        → failed ≡ failures (drop gone st.list) + 1 → trips ≡ ratio_reached failed len m q → Decides s reading false st (Ok (counted_as (change gone run len) trips))
     unfolding tripped
     outcome-failed run len failed trips r l f t =
         let a : failures (drop gone st.list ++ 1 ∷ []) ≡ failed = outcome-failures (drop gone st.list) ∙ sym f in
@@ -128,15 +130,15 @@ module _ (s : Settings) (st : State) (reading : ℕ) where
 
   -- ---- Windowed
   module _ (k d : ℕ) (p : s.policy ≡ Windowed k d) (gone : ℕ) (g : drop gone st.list ≡ evicted (reading - d) st.list) where
-    pub time-good : (len : ℕ) → len ≡ length (drop gone st.list) → Decides s reading true st (Counted (change gone 0 len))
+    pub time-good : (len : ℕ) → len ≡ length (drop gone st.list) → Decides s reading true st (Ok (Counted (change gone 0 len)))
     time-good len l =
         decides-good s reading st gone len (rw p (sym g ∙ sym (append-nil (drop gone st.list)))) (rw p (l ∙ ap length (sym (append-nil (drop gone st.list)))))
 
-    pub time-full : 4096 ≤ length (drop gone st.list) → Decides s reading false st (Refused Full)
+    pub time-full : 4096 ≤ length (drop gone st.list) → Decides s reading false st (Err Full)
     time-full h = decides-full s reading st (rw (p, ← g, le-leb 4096 (length (drop gone st.list)) h))
 
     pub time-failed : length (drop gone st.list) < 4096 → (run len times : ℕ) (trips : Bool) → run ≡ min (st.run + 1) (2 ^ 32 - 1) → len ≡ length (drop gone st.list) + 1
-        → times ≡ recent (reading - d) (drop gone st.list) + 1 → trips ≡ leb k times → Decides s reading false st (counted_as (change gone run len) trips)
+        → times ≡ recent (reading - d) (drop gone st.list) + 1 → trips ≡ leb k times → Decides s reading false st (Ok (counted_as (change gone run len) trips))
     unfolding tripped
     time-failed h run len times trips r l f t =
         let a : recent (reading - d) (drop gone st.list ++ reading ∷ []) ≡ times = time-recent (reading - d) reading (drop gone st.list) (omega arith) ∙ sym f in
@@ -166,26 +168,6 @@ module _ (b : Breaker) (s : List ℕ) (c : Config) (st : State) (h : Holds c st 
       let m = failures-le w b.shared.len first s l in
       let v : failures (drop first (view b.shared.len s)) ≡ failures (drop first st.list) = ap (λ (xs : List ℕ). failures (drop first xs)) seen in
       (omega arith, omega arith)
-
--- ---- HalfOpen
-module _ (b : Breaker) (c : Config) (st : State) (reading : ℕ) (t : Ticket) (good : Bool) (e : b ≡ stored c st) (next : Breaker) where
-  pub half-fails : good ≡ false → next ≡ stored c (opening (settings c) reading st) → next ≡ stored c (in_half_open (settings c) reading t good st)
-  half-fails g q = rw g q
-
-  -- the capped number of successes is the number itself where it is tested
-  module _ (g : good ≡ true) (n : ℕ) (k : n ≡ min (b.shared.counts.successes + 1) (2 ^ 32 - 1)) where
-    pub half-closes : b.config.required ≤ n → next ≡ stored c (closing st) → next ≡ stored c (in_half_open (settings c) reading t good st)
-    half-closes m q =
-        let l : b.config.required ≤ b.shared.counts.successes + 1 = omega arith in
-        rw (g, le-leb _ _ (rw e at l)) q
-
-    pub half-counts : n < b.config.required → b.config.required < 2 ^ 32 → (x : Counts) → x.inflight ≡ b.shared.counts.inflight - probes t
-        → x.trait_probes ≡ b.shared.counts.trait_probes → x.successes ≡ n → next ≡ stored c (with_counts x st) → next ≡ stored c (in_half_open (settings c) reading t good st)
-    half-counts v w x i j y q =
-        let a : n ≡ b.shared.counts.successes + 1 = omega arith in
-        let l : b.shared.counts.successes + 1 < b.config.required = omega arith in
-        let z : x ≡ less_counts (probes t) 0 1 b.shared.counts = rw (← i, sub-zero, ← j, ← a, ← y) in
-        rw (g, lt-leb _ _ (rw e at l)) (q ∙ ap (λ (u : Counts). stored c (with_counts u st)) (rw e at z))
 
 -- ---- the list stored
 module _ (b : Breaker) (s : List ℕ) (c : Config) (st : State) (h : Holds c st b s) (ok : sound b s ≡ true) (failed : Bool) (reading gone : ℕ) where

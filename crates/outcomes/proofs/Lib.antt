@@ -1,4 +1,3 @@
 -- Laws, by the steps of the code that use them.
 pub mod Deciding
-pub mod Making
 pub mod Settling

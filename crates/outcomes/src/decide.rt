@@ -3,20 +3,18 @@
 ghost use Rattle.std.specs.Prelude.{◌≡◌, ℕ, ◌+◌, ◌-◌, ◌≤◌, Bool, true};
 ghost use Rattle.std.specs.Float.{binary64};
 ghost use Rattle.std.specs.Float.Ieee.{of_bits};
-ghost use Rattle.error.specs.Told.{nothing};
 ghost use Rattle.trip.specs.declared.Config.{Config};
 ghost use Rattle.trip.specs.Policy.{Consecutive, Ratio, Windowed, policy_of};
 ghost use Rattle.breaker.specs.Record.{State, settings, stored, sound};
-ghost use Rattle.breaker.specs.Answers.{finished_told};
 ghost use Rattle.breaker.specs.Rules.{in_half_open, in_closed, settled};
 ghost use Rattle.steps.specs.Steps.{Holds};
 ghost use Rattle.outcomes.specs.Decide.{counted_as, Decides, Makes};
 
 use crate::{Change, Recorded};
-use breaker::{Breaker, CLOSED, Finished, HALF_OPEN, Settled, Ticket, items_of};
+use breaker::{Breaker, CLOSED, Counts, HALF_OPEN, Ticket, items_of};
 use error::Refusal;
 use history::{Items, MOST_ITEMS};
-use steps::{closed, one_less, one_more, opened, with_counts, with_history};
+use steps::{closed, opened, with_counts, with_history};
 
 // An outcome in HalfOpen: the record after it.
 // Ruled out: a failure counted as a success; a success that frees a trial which its ticket does not hold.
@@ -26,28 +24,27 @@ pub fn decide_half_open(b: Breaker, now_ms: u64, t: Ticket, success: bool) -> Br
     if !success {
         return opened(b, now_ms);
     }
-    let mut counts = b.shared.counts;
-    counts.successes = one_more(counts.successes);
-    if b.config.required <= counts.successes {
+    let counts = b.shared.counts;
+    let successes = counts.successes.saturating_add(1);
+    if b.config.required <= successes {
         return closed(b);
     }
-    if !t.probe {
-        return with_counts(b, counts);
-    }
-    counts.inflight = one_less(counts.inflight);
-    with_counts(b, counts)
+    let counted = Counts {
+        inflight: counts.inflight.saturating_sub(u32::from(t.probe)),
+        successes,
+        ..counts
+    };
+    with_counts(b, counted)
 }
 
 // A settle outside Closed, where nothing is refused: the record after it.
 // Ruled out: one that counts in Open; a stale ticket that counts.
+#[tactic(auto, unfolding(breaker::specs::Rules::settled))]
 pub fn decide_unclosed(b: Breaker, now_ms: u64, t: Ticket, success: bool) -> Breaker
     ensures { (b.shared.state ≡ 0 → ⊥) → (c : Config) (st : State) → b ≡ stored c st
-        → Makes c (settled (settings c) now_ms t success st) nothing result }
+        → Makes c (settled (settings c) now_ms t success st) (Ok result) b }
 {
-    if t.generation != b.shared.generation {
-        return b;
-    }
-    if b.shared.state != HALF_OPEN {
+    if t.generation != b.shared.generation || b.shared.state != HALF_OPEN {
         return b;
     }
     decide_half_open(b, now_ms, t, success)
@@ -58,14 +55,15 @@ fn counted(change: Change, trips: bool) -> Recorded
     ensures { result ≡ counted_as change trips }
 {
     if trips {
-        return Recorded::Tripped(change);
+        Recorded::Tripped(change)
+    } else {
+        Recorded::Counted(change)
     }
-    Recorded::Counted(change)
 }
 
 // Consecutive: the list stays empty.
 fn decide_run(b: Breaker, success: bool) -> Recorded
-    ensures { (c : Config) (st : State) (reading : ℕ) → b ≡ stored c st → policy_of c ≡ Consecutive c.limit → Decides (settings c) reading success st result }
+    ensures { (c : Config) (st : State) (reading : ℕ) → b ≡ stored c st → policy_of c ≡ Consecutive c.limit → Decides (settings c) reading success st (Ok result) }
 {
     let len = b.shared.len;
     if success {
@@ -75,7 +73,7 @@ fn decide_run(b: Breaker, success: bool) -> Recorded
             len,
         });
     }
-    let run = one_more(b.shared.run);
+    let run = b.shared.run.saturating_add(1);
     counted(
         Change { gone: 0, run, len },
         trip::run_trips(run, b.config.limit),
@@ -85,23 +83,23 @@ fn decide_run(b: Breaker, success: bool) -> Recorded
 // Ratio: the outcome goes behind the list, and before a full window the oldest goes.
 fn decide_outcome(b: Breaker, list: &[u64], window: u32, success: bool) -> Recorded
     ensures { sound b list.now ≡ true → (c : Config) (st : State) (reading : ℕ) → Holds c st b list.now
-        → policy_of c ≡ Ratio window (of_bits binary64 c.ratio_bits) c.min_calls → Decides (settings c) reading success st result }
+        → policy_of c ≡ Ratio window (of_bits binary64 c.ratio_bits) c.min_calls → Decides (settings c) reading success st (Ok result) }
 {
     let c = b.config;
     let h = b.shared;
     let gone = over(h.len, window);
-    let len = one_more(h.len - gone);
+    let len = (h.len - gone).saturating_add(1);
     if success {
         return Recorded::Counted(Change { gone, run: 0, len });
     }
-    let failed = (history::count_failures(list, gone, h.len) % 0x1_0000_0000) as u32;
+    let failed = u32::try_from(history::count_failures(list, gone, h.len)).unwrap_or(u32::MAX);
     counted(
         Change {
             gone,
-            run: one_more(h.run),
+            run: h.run.saturating_add(1),
             len,
         },
-        trip::ratio_trips(one_more(failed), len, c.min_calls, c.ratio_bits),
+        trip::ratio_trips(failed.saturating_add(1), len, c.min_calls, c.ratio_bits),
     )
 }
 
@@ -109,17 +107,11 @@ fn decide_outcome(b: Breaker, list: &[u64], window: u32, success: bool) -> Recor
 fn over(len: u32, window: u32) -> u32
     ensures { (result ≤ len) × (1 ≤ window → len ≤ window → result ≡ len + 1 - window) }
 {
-    if len < window {
-        return 0;
-    }
-    if len == 0 {
-        return 0;
-    }
-    1
+    u32::from(window <= len && 0 < len)
 }
 
 // Windowed: the readings before the cutoff go, and a failure's own is appended.
-fn decide_time(b: Breaker, list: &[u64], now_ms: u64, success: bool) -> Recorded
+fn decide_time(b: Breaker, list: &[u64], now_ms: u64, success: bool) -> Result<Recorded, Refusal>
     ensures { sound b list.now ≡ true → (c : Config) (st : State) → Holds c st b list.now
         → policy_of c ≡ Windowed c.limit c.period_ms → Decides (settings c) now_ms success st result }
 {
@@ -129,79 +121,74 @@ fn decide_time(b: Breaker, list: &[u64], now_ms: u64, success: bool) -> Recorded
     let gone = history::count_expired(list, h.len, cutoff);
     let stay = h.len - gone;
     if success {
-        return Recorded::Counted(Change {
+        return Ok(Recorded::Counted(Change {
             gone,
             run: 0,
             len: stay,
-        });
+        }));
     }
     if MOST_ITEMS <= stay {
-        return Recorded::Refused(Refusal::Full);
+        return Err(Refusal::Full);
     }
     let recent = history::count_recent(list, gone, h.len, cutoff);
-    counted(
+    Ok(counted(
         Change {
             gone,
-            run: one_more(h.run),
+            run: h.run.saturating_add(1),
             len: stay + 1,
         },
-        trip::times_trip(one_more(recent), c.limit),
-    )
+        trip::times_trip(recent.saturating_add(1), c.limit),
+    ))
 }
 
 // An outcome in Closed, with a ticket that is not stale: a refusal, or what becomes of run and list, and whether it opens.
 // Ruled out: a success that trips; a failure that leaves the run.
-pub fn decide_closed(b: Breaker, list: &[u64], now_ms: u64, success: bool) -> Recorded
+pub fn decide_closed(
+    b: Breaker,
+    list: &[u64],
+    now_ms: u64,
+    success: bool,
+) -> Result<Recorded, Refusal>
     ensures { sound b list.now ≡ true → (c : Config) (st : State) → Holds c st b list.now
         → Decides (settings c) now_ms success st result }
 {
-    let items = items_of(b.config);
-    match items {
-        Items::Nothing => decide_run(b, success),
-        Items::Outcomes(window) => decide_outcome(b, list, window, success),
+    match items_of(b.config) {
+        Items::Nothing => Ok(decide_run(b, success)),
+        Items::Outcomes(window) => Ok(decide_outcome(b, list, window, success)),
         Items::Times => decide_time(b, list, now_ms, success),
     }
 }
 
-// The answer and the record that what is decided in Closed comes to.
+// The record that what is decided in Closed comes to.
 // Ruled out: a failure with no room that is told as done; a trip that stays Closed.
-pub fn concluded(b: Breaker, now_ms: u64, decided: Recorded) -> Settled
-    ensures { (c : Config) (st : State) (good : Bool) → b ≡ stored c st → Decides (settings c) now_ms good st decided
-        → Makes c (in_closed (settings c) now_ms good st) (finished_told result.answer) result.breaker }
+pub fn concluded(b: Breaker, now_ms: u64, decided: Recorded) -> Breaker
+    ensures { (c : Config) (st : State) (good : Bool) → b ≡ stored c st → Decides (settings c) now_ms good st (Ok decided)
+        → Makes c (in_closed (settings c) now_ms good st) (Ok result) b }
 {
     match decided {
-        Recorded::Refused(r) => Settled {
-            answer: Finished::Refused(r),
-            breaker: b,
-        },
-        Recorded::Counted(change) => Settled {
-            answer: Finished::Done,
-            breaker: with_history(b, change.run, change.len),
-        },
-        Recorded::Tripped(change) => Settled {
-            answer: Finished::Done,
-            breaker: opened(with_history(b, change.run, change.len), now_ms),
-        },
+        Recorded::Counted(change) => with_history(b, change.run, change.len),
+        Recorded::Tripped(change) => opened(with_history(b, change.run, change.len), now_ms),
     }
 }
 
-// A settle in any state, all but the storing: its answer and the record after it.
+// A settle in any state, all but the storing: a refusal, or the record after it.
 // Ruled out: a stale ticket that counts; one that forgets what leaves the list.
-pub fn decide_settle(b: Breaker, list: &[u64], now_ms: u64, t: Ticket, success: bool) -> Settled
+#[tactic(auto, unfolding(breaker::specs::Rules::settled))]
+pub fn decide_settle(
+    b: Breaker,
+    list: &[u64],
+    now_ms: u64,
+    t: Ticket,
+    success: bool,
+) -> Result<Breaker, Refusal>
     ensures { sound b list.now ≡ true → (c : Config) (st : State) → Holds c st b list.now
-        → Makes c (settled (settings c) now_ms t success st) (finished_told result.answer) result.breaker }
+        → Makes c (settled (settings c) now_ms t success st) result b }
 {
     if b.shared.state != CLOSED {
-        return Settled {
-            answer: Finished::Done,
-            breaker: decide_unclosed(b, now_ms, t, success),
-        };
+        return Ok(decide_unclosed(b, now_ms, t, success));
     }
     if t.generation != b.shared.generation {
-        return Settled {
-            answer: Finished::Done,
-            breaker: b,
-        };
+        return Ok(b);
     }
-    concluded(b, now_ms, decide_closed(b, list, now_ms, success))
+    Ok(concluded(b, now_ms, decide_closed(b, list, now_ms, success)?))
 }

@@ -1,2 +1,3 @@
--- What a call leaves, from what the call under it left.
-pub mod Cross
+-- What a reply that is known leaves, and what a preview saw.
+pub mod Known
+pub mod Seen

@@ -1,76 +1,45 @@
-// What a call by value came to, packed: its answer as plain numbers, and the record.
-ghost use Rattle.std.specs.Prelude.{◌≡◌};
-ghost use Rattle.breaker.specs.Answers.{admission_told, finished_told, tried_told, notice_told, decided_told, reserved_told};
-ghost use Rattle.plain.specs.Steps.{stepped};
+// What a call by value came to: its answer as plain numbers, and the record after it, or where it was refused or shed the record handed in.
+ghost use Rattle.std.specs.Prelude.{◌≡◌, ℕ, List};
+ghost use Rattle.error.specs.Told.{told_or};
+ghost use Rattle.breaker.specs.Calls.{by_value, done_by_value};
+ghost use Rattle.crossing.specs.Crossing.{crossing, crossed};
 
-use crate::Step;
-use breaker::{Acquisition, Admitted, Noticed, Reserving, Settled, TriedAdmission};
-use crossing::{
-    tell_admission, tell_decided, tell_finished, tell_notice, tell_reserved, tell_tried,
-};
+use breaker::{Answered, Breaker};
+use crossing::{Tell, Told};
+use error::Refusal;
 
-pub(crate) fn pack_settled(s: Settled) -> Step
-    ensures { result ≡ stepped (finished_told s.answer) s.breaker }
+#[tactic(auto, unfolding(crossing::specs::Crossing::crossed))]
+pub(crate) fn told<A: Tell, E: Tell>(
+    called: Result<Answered<A>, E>,
+    handed: Breaker,
+) -> Answered<Told>
+    ensures { (places : List ℕ) → crossing result.answer result.breaker places ≡ crossed (by_value (told_or A.told E.told) called handed places) }
 {
-    let answer = s.answer;
-    let breaker = s.breaker;
-    Step {
-        answer: tell_finished(answer),
-        breaker,
+    match called {
+        Ok(Answered { answer, breaker }) => Answered {
+            answer: answer.tell(),
+            breaker,
+        },
+        Err(instead) => Answered {
+            answer: instead.tell(),
+            breaker: handed,
+        },
     }
 }
 
-pub(crate) fn pack_admitted(s: Admitted) -> Step
-    ensures { result ≡ stepped (admission_told s.answer) s.breaker }
+// Of a call that answers no more than the record after it.
+#[tactic(auto, unfolding(crossing::specs::Crossing::crossed))]
+pub(crate) fn told_done(called: Result<Breaker, Refusal>, handed: Breaker) -> Answered<Told>
+    ensures { (places : List ℕ) → crossing result.answer result.breaker places ≡ crossed (done_by_value called handed places) }
 {
-    let answer = s.answer;
-    let breaker = s.breaker;
-    Step {
-        answer: tell_admission(answer),
-        breaker,
-    }
-}
-
-pub(crate) fn pack_tried(s: TriedAdmission) -> Step
-    ensures { result ≡ stepped (tried_told s.answer) s.breaker }
-{
-    let answer = s.answer;
-    let breaker = s.breaker;
-    Step {
-        answer: tell_tried(answer),
-        breaker,
-    }
-}
-
-pub(crate) fn pack_noticed(s: Noticed) -> Step
-    ensures { result ≡ stepped (notice_told s.answer) s.breaker }
-{
-    let answer = s.answer;
-    let breaker = s.breaker;
-    Step {
-        answer: tell_notice(answer),
-        breaker,
-    }
-}
-
-pub(crate) fn pack_acquisition(s: Acquisition) -> Step
-    ensures { result ≡ stepped (decided_told s.answer) s.breaker }
-{
-    let answer = s.answer;
-    let breaker = s.breaker;
-    Step {
-        answer: tell_decided(answer),
-        breaker,
-    }
-}
-
-pub(crate) fn pack_reserving(s: Reserving) -> Step
-    ensures { result ≡ stepped (reserved_told s.answer) s.breaker }
-{
-    let answer = s.answer;
-    let breaker = s.breaker;
-    Step {
-        answer: tell_reserved(answer),
-        breaker,
+    match called {
+        Ok(breaker) => Answered {
+            answer: ().tell(),
+            breaker,
+        },
+        Err(refusal) => Answered {
+            answer: refusal.tell(),
+            breaker: handed,
+        },
     }
 }

@@ -1,25 +1,25 @@
 // A look before a permit is finished: numbers in, the preview by value, numbers out.
 ghost use Rattle.std.specs.Prelude.{◌≡◌};
 ghost use Rattle.error.specs.Choice.{flag_of};
-ghost use Rattle.breaker.specs.Answers.{finished_told};
 ghost use Rattle.breaker.specs.Calls as Calls;
 ghost use Rattle.breaker.specs.Calls.{on_sound};
-ghost use Rattle.preview.specs.Preview.{preview, preview_of};
+ghost use Rattle.preview.specs.Preview.{previewed, preview_of};
 ghost use Rattle.crossing.specs.Crossing.{packed_preview, ticket_by};
 
-use breaker::Breaker;
-use crossing::{PlainPreview, PlainTicket, tell_finished, ticket_by};
-use preview::Previewed;
+use crate::pack::told_done;
+use breaker::{Answered, Breaker};
+use crossing::{PlainPreview, PlainTicket, ticket_by};
+use error::Refusal;
 
-fn pack_previewed(p: Previewed) -> PlainPreview
-    ensures { result ≡ packed_preview (preview (finished_told p.answer) p.breaker p.len) }
+// What a preview saw of the record that was handed in.
+fn told_preview(seen: Result<Breaker, Refusal>, handed: Breaker) -> PlainPreview
+    ensures { result ≡ packed_preview (previewed seen handed) }
 {
-    let answer = p.answer;
-    let breaker = p.breaker;
+    let Answered { answer, breaker } = told_done(seen, handed);
     PlainPreview {
-        told: tell_finished(answer),
+        told: answer,
         breaker,
-        len: p.len,
+        len: breaker.shared.len,
     }
 }
 
@@ -34,7 +34,10 @@ pub fn preview_settle(
 ) -> PlainPreview
     ensures { result ≡ packed_preview (preview_of (on_sound (Calls.settle now_ms (ticket_by ticket) (flag_of success)) breaker list.now)) }
 {
-    pack_previewed(preview::preview_settle(breaker, list, now_ms, ticket_by(ticket), success != 0))
+    told_preview(
+        preview::preview_settle(breaker, list, now_ms, ticket_by(ticket), success != 0),
+        breaker,
+    )
 }
 
 // What `abort_as` would do.
@@ -47,5 +50,8 @@ pub fn preview_abort(
 ) -> PlainPreview
     ensures { result ≡ packed_preview (preview_of (on_sound (Calls.abort_as (ticket_by ticket) (flag_of via_trait)) breaker list.now)) }
 {
-    pack_previewed(preview::preview_abort(breaker, list, ticket_by(ticket), via_trait != 0))
+    told_preview(
+        preview::preview_abort(breaker, list, ticket_by(ticket), via_trait != 0),
+        breaker,
+    )
 }

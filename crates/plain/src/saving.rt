@@ -6,10 +6,9 @@ ghost use Rattle.saves.specs.Buffer.{Reading, Reads};
 ghost use Rattle.checkpoints.specs.Calls.{restored, saved};
 ghost use Rattle.crossing.specs.Crossing.{packed, crossing, crossed, crossing_save, crossed_save};
 
-use crate::Step;
-use crate::pack::pack_settled;
-use breaker::Breaker;
-use crossing::{Told, tell_judged, tell_saving};
+use crate::pack::told_done;
+use breaker::{Answered, Breaker};
+use crossing::{Tell, Told, tell_judged};
 
 // Saves a breaker under a name at the used length of a buffer: 0 with the used length after it.
 // Ruled out: a save told 0 and not written; the used length before it.
@@ -17,16 +16,25 @@ pub fn save(breaker: Breaker, list: &[u64], buffer: &mut [u8], used: usize, name
     ensures { (x : Reading) × (sound breaker list.now ≡ true → Reads buffer.old used x)
         × (crossing_save result buffer.new ≡ crossed_save (saved x name.now breaker list.now buffer.old used)) }
 {
-    tell_saving(checkpoints::save(breaker, list, buffer, used, name))
+    checkpoints::save(breaker, list, buffer, used, name).tell()
 }
 
 // Comes back to the save of a name: all that was saved, in the next generation, with no trial out.
 // Ruled out: a return told 0 with the old record left; one past the saved generation.
-pub fn restore(breaker: Breaker, list: &mut [u64], buffer: &[u8], used: usize, name: &[u8]) -> Step
+pub fn restore(
+    breaker: Breaker,
+    list: &mut [u64],
+    buffer: &[u8],
+    used: usize,
+    name: &[u8],
+) -> Answered<Told>
     ensures { (x : Reading) × (sound breaker list.old ≡ true → Reads buffer.now used x)
         × (crossing result.answer result.breaker list.new ≡ crossed (restored x name.now breaker list.old)) }
 {
-    pack_settled(checkpoints::restore(breaker, list, buffer, used, name))
+    told_done(
+        checkpoints::restore(breaker, list, buffer, used, name),
+        breaker,
+    )
 }
 
 // The check of a block by itself: 0 with where its used body begins and how long it is, or the number that it meets.

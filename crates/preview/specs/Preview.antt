@@ -1,7 +1,8 @@
 -- W-204: "A preview takes the same inputs and reads the list only. Its answer, refusals included, and the record it returns equal those of the
 -- real call made on a copy, and it reports the list length that call would leave." Definitions only.
-use Rattle.std.specs.Prelude.{ℕ}
-use Rattle.error.specs.Told.{Told}
+use Rattle.std.specs.Prelude.{ℕ, Result, Ok, Err}
+use Rattle.error.specs.Told.{Told, nothing, refused}
+use Rattle.error.specs.declared.Refusal.{Refusal}
 use Rattle.breaker.specs.declared.Breaker.{Breaker}
 use Rattle.breaker.specs.Calls.{After}
 
@@ -12,6 +13,11 @@ pub record Preview : Type 0 where
 
 abbrev pub preview : Told → Breaker → ℕ → Preview
 preview t b n = record { told = t; breaker = b; len = n }
+
+-- of a preview's answer: the record after the call, whose list length is the list's; refused, the record that was handed in
+abbrev pub previewed : Result Breaker Refusal → Breaker → Preview
+previewed (Ok next) b = preview nothing next next.shared.len
+previewed (Err r) b = preview (refused r) b b.shared.len
 
 -- of what a call leaves: all but the places, and of these the length of the list in them (`left-length` of proofs/Previews.antt)
 abbrev pub preview_of : After → Preview

@@ -1,6 +1,6 @@
 -- Saves one after another: known by their bytes, and by the numbers of their names. Assumes nothing.
 use mathlib.Core.Path.{◌≡◌, refl, sym, ap, ◌∙◌}
-use mathlib.Core.Bool.{Bool, true, false, ◌||◌, false≢true}
+use mathlib.Core.Bool.{Bool, true, false, ◌||◌, false≢true, or-true}
 use mathlib.Core.List.{List, [], ◌∷◌, ◌++◌, append_assoc, append-nil}
 use Prim.Native.Nat.{ℕ, ◌≤◌}
 use native.Mathlib.Omega.{arith}
@@ -68,10 +68,6 @@ pub there-append : (n : List ℕ) (hs : List Save) (x : Save) (rest : List Save)
 unfolding is_there
 there-append n [] x rest e = ap (λ (b : Bool). b || is_there n rest) e
 there-append n (h ∷ hs) x rest e = ap (λ (b : Bool). same_bytes n h.name || b) (there-append n hs x rest e) ∙ or-true (same_bytes n h.name)
-  where
-    or-true : (b : Bool) → (b || true) ≡ true
-    or-true true = refl
-    or-true false = refl
 
 or_cases : (b c : Bool) → (b || c) ≡ false → (b ≡ false) × (c ≡ false)
 or_cases true c e = absurd (false≢true (sym e))
@@ -100,13 +96,3 @@ all_snoc (h ∷ hs) x a g e =
     let p = or_cases (eqb (number h.name) (number x.name)) (is_listed (number x.name) (numbers_of hs)) e in
     let s : same_bytes h.name x.name ≡ false = sym (names_same h.name x.name a.0.named g.named) ∙ p.0 in
     (a.0, there-snoc h.name hs x a.1 s, all_snoc hs x a.2 g p.1)
-
--- ---- where a name is listed
-pub listed-append : (n : ℕ) (xs ys : List ℕ) → is_listed n (xs ++ ys) ≡ (is_listed n xs || is_listed n ys)
-unfolding is_listed
-listed-append n [] ys = refl
-listed-append n (x ∷ xs) ys = ap (λ (b : Bool). eqb x n || b) (listed-append n xs ys) ∙ or_assoc (eqb x n) (is_listed n xs) (is_listed n ys)
-  where
-    or_assoc : (a b c : Bool) → (a || (b || c)) ≡ ((a || b) || c)
-    or_assoc true b c = refl
-    or_assoc false b c = refl

@@ -4,32 +4,21 @@
 mod buffer;
 
 pub use buffer::look;
-use error::Refusal;
 
-// The bytes of the largest buffer.
+// The bytes of the largest buffer, and as many saves as it has room for.
 const LARGEST: usize = 65536;
+
+const MOST_SAVES: usize = 128;
 
 // Room for the longest body of a save: 86 bytes and 4,096 times.
 pub const ROOM: usize = 32854;
 
-// What stands at the front of bytes: a save whose name is this number, with a body of so many bytes, or none.
-#[derive(Clone, Copy)]
-enum Stands {
-    Save(u64, usize),
-    Nothing,
-}
+// The version of a save's run.
+const VERSION: u16 = 1;
 
-// What a walk over blocks finds: saves, with the place of the asked name, or the end where it is absent; or that they are no saves.
+// A save that stands at the front of bytes: its name, as a number, and how many bytes its body has.
 #[derive(Clone, Copy)]
-enum Walked {
-    Place(usize),
-    Wrong,
-}
-
-// What is found in a buffer: a refusal, or the place of the asked name, or that it is absent.
-#[derive(Clone, Copy)]
-pub enum Looked {
-    Wrong(Refusal),
-    Absent,
-    At(usize),
+struct Stands {
+    name: u64,
+    size: usize,
 }

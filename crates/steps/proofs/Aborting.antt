@@ -1,5 +1,5 @@
 -- Each answer of an abort and of a release, from the tests that led to it. Assumes nothing.
-use Rattle.std.proofs.Common.{◌≡◌, ℕ, Bool, true, false, ◌&&◌, eqb, ltb, List, sym, refl, ap, ◌∙◌, add-zero, arith, le-ltb, lt-ltb, eq-eqb, ne_eqb, if◌then◌else◌}
+use Rattle.std.proofs.Common.{◌≡◌, ℕ, Bool, true, false, ◌&&◌, ◌⊎◌, inl, inr, eqb, ltb, List, sym, refl, ap, ◌∙◌, add-zero, arith, le-ltb, lt-ltb, eq-eqb, ne_eqb, if◌then◌else◌}
 use Rattle.error.specs.Told.{Told}
 use Rattle.error.specs.Choice.{bit}
 use Rattle.history.specs.Items.{padded}
@@ -43,13 +43,10 @@ given_back told c t via st next s e l = rw (e, l, aborted-list t via st)
 
 -- ---- release
 module _ (b : Breaker) (c : Config) (st : State) (e : b ≡ stored c st) where
-  pub release-off : (b.shared.state ≡ HalfOpen → ⊥) → b ≡ stored c (released st)
+  pub release-idle : (b.shared.state ≡ HalfOpen → ⊥) ⊎ ((b.shared.state ≡ HalfOpen) × (b.shared.counts.trait_probes ≡ 0)) → b ≡ stored c (released st)
   unfolding released
-  release-off n = rw (ne_eqb _ _ (rw e at n)) e
-
-  pub release-none : b.shared.state ≡ HalfOpen → b.shared.counts.trait_probes ≡ 0 → b ≡ stored c (released st)
-  unfolding released
-  release-none k z = rw (eq-eqb _ _ (rw e at k), le-ltb 0 st.counts.trait_probes (omega (arith, rw e at z))) e
+  release-idle (inl n) = rw (ne_eqb _ _ (rw e at n)) e
+  release-idle (inr k) = rw (eq-eqb _ _ (rw e at k.0), le-ltb 0 st.counts.trait_probes (omega (arith, rw e at k.1))) e
 
   pub release-one : b.shared.state ≡ HalfOpen → (b.shared.counts.trait_probes ≡ 0 → ⊥) → (x : Counts) → x ≡ less_counts 1 1 0 b.shared.counts → (next : Breaker)
       → next ≡ stored c (with_counts x st) → next ≡ stored c (released st)

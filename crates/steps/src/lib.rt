@@ -9,21 +9,4 @@ mod update;
 
 pub use admit::{admit_as_locked, admit_locked, still_admits_locked};
 pub use back::{abort_locked, release_locked};
-use breaker::{Breaker, Delay, Ticket};
-pub use update::{
-    closed, one_less, one_more, opened, renewed, returned, transition, with_counts, with_history,
-};
-
-// What an admission comes to: its ticket and the record after it, or the delay.
-#[derive(Clone, Copy)]
-pub enum Entry {
-    Granted(Ticket, Breaker),
-    Shed(Delay),
-}
-
-// Whether a waiter may still go, or the delay.
-#[derive(Clone, Copy)]
-pub enum Verdict {
-    Admits,
-    Shed(Delay),
-}
+pub use update::{closed, opened, renewed, returned, transition, with_counts, with_history};

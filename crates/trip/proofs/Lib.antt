@@ -2,4 +2,3 @@
 pub mod Floats
 pub mod Ratios
 pub mod Settings
-pub mod OneToOne

@@ -1,24 +1,15 @@
 -- "Policies and settings": durations, normalising, and the settings of a record.
-use Rattle.std.specs.Prelude.{ℕ, ◌+◌, ◌-◌, ◌*◌, ◌/◌, ◌%◌, ◌^◌, min, max, Bool, true, false, not, List, [], ◌∷◌, pos, ltb, Float, if◌then◌else◌}
+use Rattle.std.specs.Prelude.{ℕ, ◌+◌, ◌-◌, ◌*◌, ◌/◌, ◌%◌, ◌^◌, min, max, Bool, true, false, not, Result, Ok, Err, pos, ltb, Float, if◌then◌else◌}
 use Rattle.std.specs.Float.{fin, binary64}
 use Rattle.std.specs.Float.Ieee.{lt, is_nan, to_bits}
-use Rattle.error.specs.Told.{Told, tell, refused}
+use Rattle.error.specs.declared.Refusal.{Refusal}
 use Rattle.error.specs.declared.Refusal.TheVariants.{Time, Limit}
 use Rattle.trip.specs.declared.Duration.{Duration}
-use Rattle.trip.specs.declared.Millis.{Millis}
-use Rattle.trip.specs.declared.Millis.TheVariants.{Whole, Refused}
 use Rattle.trip.specs.declared.Trip.{Trip}
 use Rattle.trip.specs.declared.Trip.TheVariants.{Consecutive, Ratio, Windowed}
 use Rattle.trip.specs.declared.RatioSettings.{RatioSettings}
 use Rattle.trip.specs.declared.Config.{Config}
-use Rattle.trip.specs.declared.Built.{Built}
-use Rattle.trip.specs.declared.Built.TheVariants.{Made, Refused as NotMade}
 use Rattle.trip.specs.declared.CircuitBreakerBuilder.{CircuitBreakerBuilder}
-
--- the milliseconds, or the number of a refusal
-abbrev pub millis_told : Millis → Told
-millis_told (Whole ms) = tell 0 (ms ∷ [])
-millis_told (Refused r) = refused r
 
 -- whether it is a time; if not, number 1: "nanoseconds field ≥ 10^9"
 abbrev pub is_time : Duration → Bool
@@ -32,8 +23,9 @@ millis d = min (d.secs * 1000 + d.nanos / 1000000) (2 ^ 64 - 1)
 abbrev pub of_millis : ℕ → Duration
 of_millis ms = record { secs = ms / 1000; nanos = ms % 1000 * 1000000 }
 
-abbrev pub millis_of : Duration → Told
-millis_of d = if is_time d then tell 0 (millis d ∷ []) else refused Time
+-- or number 1
+abbrev pub millis_of : Duration → Result ℕ Refusal
+millis_of d = if is_time d then Ok (millis d) else Err Time
 
 -- 0.0 and 1.0
 abbrev pub zero_ratio : Float
@@ -60,15 +52,7 @@ normalised_trip (Consecutive n) = Consecutive (max n 1)
 normalised_trip (Ratio window ratio least) = let r = normalised_ratio window ratio least in Ratio r.window r.ratio r.min_calls
 normalised_trip (Windowed failures period) = Windowed (max failures 1) period
 
--- ---- the settings of a record: kind, n or window or failures, ratio bits, min calls, period ms, cooldown ms, trials, required
-
-abbrev pub config_values : Config → List ℕ
-config_values c =
-    c.kind ∷ c.limit ∷ c.ratio_bits ∷ c.min_calls ∷ c.period_ms ∷ c.cooldown_ms ∷ c.trials ∷ c.required ∷ []
-
-abbrev pub built_told : Built → Told
-built_told (Made c) = tell 0 (config_values c)
-built_told (NotMade r) = refused r
+-- ---- the settings of a record
 
 -- whether a policy's own duration, if it has one, is a time
 abbrev pub period_is_time : Trip → Bool
@@ -91,18 +75,18 @@ config_for (Ratio window ratio least) cooldown trials required =
 config_for (Windowed failures period) cooldown trials required =
     record { kind = 3; limit = failures; ratio_bits = 0; min_calls = 0; period_ms = millis period; cooldown_ms = cooldown; trials = trials; required = required }
 
-abbrev pub settings_of : Trip → ℕ → ℕ → ℕ → Built
+abbrev pub settings_of : Trip → ℕ → ℕ → ℕ → Result Config Refusal
 settings_of trip cooldown trials required =
-    if not (period_is_time trip) then NotMade Time
-    else if over_limit (normalised_trip trip) then NotMade Limit
-    else Made (config_for (normalised_trip trip) cooldown trials required)
+    if not (period_is_time trip) then Err Time
+    else if over_limit (normalised_trip trip) then Err Limit
+    else Ok (config_for (normalised_trip trip) cooldown trials required)
 
 -- "Trials at least 1; required 1 to trials."; 1 for the cooldown, then for the period, then 2
-unfoldable pub built_of : CircuitBreakerBuilder → Built
+unfoldable pub built_of : CircuitBreakerBuilder → Result Config Refusal
 built_of b =
     let trials = max b.half_open_trials 1 in
     if is_time b.cooldown then settings_of b.trip (millis b.cooldown) trials (min (max b.half_open_required 1) trials)
-    else NotMade Time
+    else Err Time
 
 -- ---- the builder
 

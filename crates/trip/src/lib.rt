@@ -1,10 +1,10 @@
 // Settings and policies (from circuit.rs: Trip, CircuitBreakerBuilder, Config, tripped).
 #![tactic(auto)]
 
-ghost use Rattle.std.specs.Prelude.{◌≡◌, min, max};
+ghost use Rattle.std.specs.Prelude.{◌≡◌};
 ghost use Rattle.std.specs.Float.{binary64};
 ghost use Rattle.std.specs.Float.Ieee.{of_bits};
-ghost use Rattle.trip.specs.Settings.{millis_told, millis_of, of_millis, clamped_ratio, normalised_ratio, normalised_trip, built_told, settings_of, built_of, default_builder, with_trip, with_cooldown, with_half_open};
+ghost use Rattle.trip.specs.Settings.{millis_of, of_millis, clamped_ratio, normalised_ratio, normalised_trip, settings_of, built_of, default_builder, with_trip, with_cooldown, with_half_open};
 ghost use Rattle.trip.specs.Policy.{run_reached, ratio_reached, times_reached, board_figure};
 
 use error::Refusal;
@@ -26,29 +26,17 @@ pub struct Duration {
     pub nanos: u32,
 }
 
-// A duration in milliseconds.
-#[derive(Clone, Copy)]
-pub enum Millis {
-    Whole(u64),
-    Refused(Refusal),
-}
-
 impl Duration {
-    // The milliseconds, with the rest dropped, at most 2^64 - 1.
+    // The milliseconds, with the rest dropped, at most 2^64 - 1; refused where the nanoseconds make a second.
     // Ruled out: a product that wraps; nanoseconds of 10^9 taken for a second.
-    pub fn as_millis(self) -> Millis
-        ensures { millis_told result ≡ millis_of self }
+    pub fn as_millis(self) -> Result<u64, Refusal>
+        ensures { result ≡ millis_of self }
     {
-        let secs = self.secs;
-        let nanos = self.nanos;
-        if nanos >= 1_000_000_000 {
-            return Millis::Refused(Refusal::Time);
+        if self.nanos >= 1_000_000_000 {
+            return Err(Refusal::Time);
         }
-        let rest = (nanos / 1_000_000) as u64;
-        if secs > (0xffff_ffff_ffff_ffff - rest) / 1000 {
-            return Millis::Whole(0xffff_ffff_ffff_ffff);
-        }
-        Millis::Whole(secs * 1000 + rest)
+        let rest = u64::from(self.nanos / 1_000_000);
+        Ok(self.secs.saturating_mul(1000).saturating_add(rest))
     }
 
     // The duration of so many milliseconds.
@@ -89,24 +77,6 @@ pub struct RatioSettings {
     pub min_calls: u32,
 }
 
-fn at_least_one(n: u32) -> u32
-    ensures { result ≡ max n 1 }
-{
-    if n < 1 {
-        return 1;
-    }
-    n
-}
-
-fn at_most(n: u32, most: u32) -> u32
-    ensures { result ≡ min n most }
-{
-    if most < n {
-        return most;
-    }
-    n
-}
-
 // NaN becomes 1.0; the rest is clamped to 0.0 to 1.0, and -0.0 stays. A number is judged by its bits, which no floating-point mode changes;
 // a NaN, whose bits can't be asked for, differs from itself in every mode.
 fn clamped(ratio: f64) -> f64
@@ -133,11 +103,11 @@ impl RatioSettings {
     pub fn normalised(self) -> RatioSettings
         ensures { result ≡ normalised_ratio self.window self.ratio self.min_calls }
     {
-        let window = at_least_one(self.window);
+        let window = self.window.max(1);
         RatioSettings {
             window,
             ratio: clamped(self.ratio),
-            min_calls: at_most(self.min_calls, window),
+            min_calls: self.min_calls.min(window),
         }
     }
 }
@@ -149,7 +119,7 @@ impl Trip {
         ensures { result ≡ normalised_trip self }
     {
         match self {
-            Trip::Consecutive(n) => Trip::Consecutive(at_least_one(n)),
+            Trip::Consecutive(n) => Trip::Consecutive(n.max(1)),
             Trip::Ratio {
                 window,
                 ratio,
@@ -168,14 +138,14 @@ impl Trip {
                 }
             }
             Trip::Windowed { failures, period } => Trip::Windowed {
-                failures: at_least_one(failures),
+                failures: failures.max(1),
                 period,
             },
         }
     }
 }
 
-// The kinds of a policy in a record.
+// The kinds of a policy in a record: numbers, since a caller in C may hand in any.
 pub const POLICY_CONSECUTIVE: u8 = 1;
 
 pub const POLICY_RATIO: u8 = 2;
@@ -184,7 +154,7 @@ pub const POLICY_WINDOWED: u8 = 3;
 
 // The settings of a breaker record, in document 01's order. Fields of another policy are 0.
 #[repr(C)]
-#[derive(Clone, Copy)]
+#[derive(Clone, Copy, Debug, PartialEq, Eq)]
 pub struct Config {
     // 1 Consecutive, 2 Ratio, 3 Windowed
     pub kind: u8,
@@ -198,13 +168,6 @@ pub struct Config {
     pub required: u32,
 }
 
-// What a builder makes.
-#[derive(Clone, Copy)]
-pub enum Built {
-    Made(Config),
-    Refused(Refusal),
-}
-
 #[derive(Clone, Copy)]
 pub struct CircuitBreakerBuilder {
     pub trip: Trip,
@@ -214,57 +177,49 @@ pub struct CircuitBreakerBuilder {
 }
 
 // The settings of a policy, beside the numbers that every policy has.
-fn config_of(trip: Trip, cooldown_ms: u64, trials: u32, required: u32) -> Built
-    ensures { built_told result ≡ built_told (settings_of trip cooldown_ms trials required) }
+fn config_of(trip: Trip, cooldown_ms: u64, trials: u32, required: u32) -> Result<Config, Refusal>
+    ensures { result ≡ settings_of trip cooldown_ms trials required }
 {
+    let shared = Config {
+        kind: POLICY_CONSECUTIVE,
+        limit: 0,
+        ratio_bits: 0,
+        min_calls: 0,
+        period_ms: 0,
+        cooldown_ms,
+        trials,
+        required,
+    };
     match trip.normalised() {
-        Trip::Consecutive(n) => Built::Made(Config {
-            kind: POLICY_CONSECUTIVE,
-            limit: n,
-            ratio_bits: 0,
-            min_calls: 0,
-            period_ms: 0,
-            cooldown_ms,
-            trials,
-            required,
-        }),
+        Trip::Consecutive(n) => Ok(Config { limit: n, ..shared }),
         Trip::Ratio {
             window,
             ratio,
             min_calls,
         } => {
             if MOST_ITEMS < window {
-                return Built::Refused(Refusal::Limit);
+                return Err(Refusal::Limit);
             }
-            Built::Made(Config {
+            Ok(Config {
                 kind: POLICY_RATIO,
                 limit: window,
-                ratio_bits: f64::to_bits(ratio),
+                ratio_bits: ratio.to_bits(),
                 min_calls,
-                period_ms: 0,
-                cooldown_ms,
-                trials,
-                required,
+                ..shared
             })
         }
-        Trip::Windowed { failures, period } => match period.as_millis() {
-            Millis::Refused(r) => Built::Refused(r),
-            Millis::Whole(period_ms) => {
-                if MOST_ITEMS < failures {
-                    return Built::Refused(Refusal::Limit);
-                }
-                Built::Made(Config {
-                    kind: POLICY_WINDOWED,
-                    limit: failures,
-                    ratio_bits: 0,
-                    min_calls: 0,
-                    period_ms,
-                    cooldown_ms,
-                    trials,
-                    required,
-                })
+        Trip::Windowed { failures, period } => {
+            let period_ms = period.as_millis()?;
+            if MOST_ITEMS < failures {
+                return Err(Refusal::Limit);
             }
-        },
+            Ok(Config {
+                kind: POLICY_WINDOWED,
+                limit: failures,
+                period_ms,
+                ..shared
+            })
+        }
     }
 }
 
@@ -293,58 +248,40 @@ impl CircuitBreakerBuilder {
     }
 
     // Ruled out: a setter that normalises here; one that resets the cooldown.
-    pub fn trip(self, trip: Trip) -> Self
+    pub fn trip(mut self, trip: Trip) -> Self
         ensures { result ≡ with_trip trip self }
     {
-        let cooldown = self.cooldown;
-        Self {
-            trip,
-            cooldown,
-            half_open_trials: self.half_open_trials,
-            half_open_required: self.half_open_required,
-        }
+        self.trip = trip;
+        self
     }
 
     // Ruled out: one that keeps the old cooldown; one that drops the nanoseconds.
-    pub fn cooldown(self, cooldown: Duration) -> Self
+    pub fn cooldown(mut self, cooldown: Duration) -> Self
         ensures { result ≡ with_cooldown cooldown self }
     {
-        let trip = self.trip;
-        Self {
-            trip,
-            cooldown,
-            half_open_trials: self.half_open_trials,
-            half_open_required: self.half_open_required,
-        }
+        self.cooldown = cooldown;
+        self
     }
 
     // Ruled out: trials and required exchanged; required kept as it was.
-    pub fn half_open(self, trials: u32, required: u32) -> Self
+    pub fn half_open(mut self, trials: u32, required: u32) -> Self
         ensures { result ≡ with_half_open trials required self }
     {
-        let trip = self.trip;
-        let cooldown = self.cooldown;
-        Self {
-            trip,
-            cooldown,
-            half_open_trials: trials,
-            half_open_required: required,
-        }
+        self.half_open_trials = trials;
+        self.half_open_required = required;
+        self
     }
 
     // The settings of a record, normalised, or refusal 1, then 2.
     // Ruled out: 2 told before 1; a window of 4,097 taken.
-    pub fn config(self) -> Built
-        ensures { built_told result ≡ built_told (built_of self) }
+    #[tactic(auto, unfolding(crate::specs::Settings::built_of))]
+    pub fn config(self) -> Result<Config, Refusal>
+        ensures { result ≡ built_of self }
     {
-        let trip = self.trip;
-        let cooldown = self.cooldown;
-        let trials = at_least_one(self.half_open_trials);
-        let required = at_most(at_least_one(self.half_open_required), trials);
-        match cooldown.as_millis() {
-            Millis::Refused(r) => Built::Refused(r),
-            Millis::Whole(cooldown_ms) => config_of(trip, cooldown_ms, trials, required),
-        }
+        let trials = self.half_open_trials.max(1);
+        let required = self.half_open_required.max(1).min(trials);
+        let cooldown_ms = self.cooldown.as_millis()?;
+        config_of(self.trip, cooldown_ms, trials, required)
     }
 }
 

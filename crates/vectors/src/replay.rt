@@ -1,269 +1,301 @@
 // The lines of the sample, replayed on our breaker and our wait, and compared with what the sample expects.
-ghost use Rattle.std.specs.Prelude.{◌≤◌};
-
-use crate::calls::narrow;
-use crate::compare::{
-    Numbers, Places, SETTINGS, SHARED, TAKEN, TOLD, WAIT, WANT_LEN, WANT_SETTINGS, Want,
-    no_numbers, numbers_of, pop, push,
-};
-use crate::format::is_line;
-use crate::lines::Line;
-use crate::make::{Asked, Ours, asked, make, no_pending};
-use crate::refusals::{all_refuse, changed, ended_refuses, is_plain, judge};
-use crate::tallies::{Tallies, tally};
-use crate::{columns as at, lent, make, tallies};
-use breaker::{Breaker, Counts, Shared, no_counts};
+use crate::asked::{Asked, Call, Handed, Made, Op, Ours, Turn};
+use crate::lines::{Due, Line, Moved};
+use crate::numbers;
+use crate::refusals::UNFINISHED;
+use crate::tallies::{Tallies, count};
+use breaker::{Breaker, CLOSED, Shared, Ticket, no_counts};
+use crossing::Waited;
+use error::Refusal;
 use history::PLACES;
-use trip::Config;
+use std::alloc::{AllocError, Global};
+use trip::{CircuitBreakerBuilder, Config};
+use wait::{GRANTED, TURN_WIDTH, ended_wait};
+use waiting::Pending;
 
-// Before the first build: a record of zeros, which is not sound.
-pub(crate) fn nothing() -> Ours {
-    Ours {
-        breaker: Breaker {
-            config: Config {
-                kind: 0,
-                limit: 0,
-                ratio_bits: 0,
-                min_calls: 0,
-                period_ms: 0,
-                cooldown_ms: 0,
-                trials: 0,
-                required: 0,
-            },
-            shared: Shared {
-                state: 0,
-                generation: 0,
-                run: 0,
-                counts: no_counts(),
-                open_until: 0,
-                len: 0,
-            },
-        },
-        pending: no_pending(),
-    }
+#[derive(Drop)]
+pub(crate) struct Replay {
+    ours: Ours,
+    places: [u64; PLACES],
+    // what is expected: the settings, and the list in the places
+    config: Config,
+    list: Vec<u64>,
+    // whether the present line missed something
+    missed: bool,
+    pub(crate) tallies: Tallies,
 }
 
-// Builds a breaker in the record and the storage that the last one left: all is 0 but the settings.
-fn build(ours: Ours, list: &mut Places, want: &mut Want, n: &Line, t: &mut Tallies) -> Ours {
-    let breaker = ours.breaker;
-    let fresh = Ours {
-        breaker,
-        pending: no_pending(),
-    };
-    let left = make(list, fresh, asked(fresh, n));
-    let built = left.ours;
-    let mut due = no_numbers();
-    push(&mut due, SETTINGS, n, at::BUILT, at::RECORD_WIDTH);
-    pop(want, PLACES);
-    push(want, WANT_SETTINGS, n, at::BUILT, at::RECORD_WIDTH);
-    want[WANT_LEN] = 0;
-    judge(at::CALL, &numbers_of(left), &due, list, want, t);
-    built
-}
+// Before the first build: settings of zeros, which are not sound.
+const NO_CONFIG: Config = Config {
+    kind: 0,
+    limit: 0,
+    ratio_bits: 0,
+    min_calls: 0,
+    period_ms: 0,
+    cooldown_ms: 0,
+    trials: 0,
+    required: 0,
+};
 
-fn shared_of(n: &Line) -> Shared {
+// A fresh record but for its settings.
+fn fresh() -> Shared {
     Shared {
-        state: (n[at::SET_STATE] % 256) as u8,
-        generation: n[at::SET_GENERATION],
-        run: narrow(n[at::SET_RUN]),
-        counts: Counts {
-            inflight: narrow(n[at::SET_INFLIGHT]),
-            trait_probes: narrow(n[at::SET_TRAIT_PROBES]),
-            successes: narrow(n[at::SET_SUCCESSES]),
+        state: CLOSED,
+        generation: 0,
+        run: 0,
+        counts: no_counts(),
+        open_until: 0,
+        len: 0,
+    }
+}
+
+// No wait: one that has ended.
+fn no_pending() -> Pending {
+    Pending {
+        wait: ended_wait(),
+        ticket: Ticket {
+            generation: 0,
+            probe: false,
         },
-        open_until: n[at::SET_OPEN_UNTIL],
-        len: narrow(n[at::SET_LEN]),
     }
 }
 
-// Writes the items of a state's line, and zeros behind them.
-fn fill(list: &mut [u64], n: &Line) {
-    pop(list, PLACES);
-    push(list, 0, n, at::SET_ITEMS, n[at::SET_LEN] as usize);
-}
-
-// Sets the record and the places. Every state of the sample is sound.
-fn set(ours: Ours, list: &mut Places, want: &mut Want, n: &Line, t: &mut Tallies) -> Ours {
-    fill(list, n);
-    fill(want, n);
-    want[WANT_LEN] = n[at::SET_LEN];
-    let mut breaker = ours.breaker;
-    let shared = shared_of(n);
-    breaker.shared = shared;
-    let r = lent::is_sound(breaker, list);
-    if !r.answer {
-        tally(t, tallies::MISSES);
-    }
-    Ours {
-        breaker,
-        pending: no_pending(),
+// Told this number alone.
+fn alone(number: u32) -> Waited {
+    Waited {
+        number,
+        v1: 0,
+        v2: 0,
+        v3: 0,
+        v4: 0,
+        taken: 0,
     }
 }
 
-// The expected list after a call, by the line's popped and pushed alone.
-fn follow(want: &mut Want, n: &Line, t: &mut Tallies) {
-    let popped = n[at::POPPED];
-    let pushed = n[at::PUSHED];
-    let kept = std::num::wrapping_sub_u64(want[WANT_LEN], popped);
-    let len = std::num::wrapping_add_u64(kept, pushed);
-    pop(want, popped as usize);
-    push(want, kept as usize, n, at::PUSHED_ITEMS, pushed as usize);
-    want[WANT_LEN] = len;
-    if len != n[at::CALL_LEN] {
-        tally(t, tallies::MISSES);
-    }
-}
-
-// Where a line of this kind says what was told. The record follows it.
-fn told_at(kind: u64) -> usize
-    ensures { result ≤ 11 }
-{
-    match kind {
-        at::START => at::START_TOLD,
-        at::TURN => at::TURN_TOLD,
-        at::DROP => at::DROP_TOLD,
-        _ => at::CALL_TOLD,
-    }
-}
-
-// What a line expects of its call, which came to `got`. It says nothing of the wait.
-fn due(want: &Want, n: &Line, got: &Numbers) -> Numbers {
-    let told = told_at(n[at::KIND]);
-    let mut due = no_numbers();
-    push(&mut due, TOLD, n, told, at::TOLD_WIDTH);
-    push(&mut due, SETTINGS, want, WANT_SETTINGS, at::RECORD_WIDTH);
-    push(&mut due, SHARED, n, told + at::TOLD_WIDTH, at::RECORD_WIDTH);
-    push(&mut due, WAIT, got, WAIT, at::RECORD_WIDTH);
-    due
-}
-
-// Whether a wait has ended by this line.
-fn ends(n: &Line) -> bool {
-    let kind = n[at::KIND];
-    match kind {
-        at::TURN => {
-            if n[at::TURN_TOLD] == 0 {
-                return n[at::TURN_TOLD + 1] == 0;
-            }
-            true
+impl Replay {
+    pub(crate) fn new(alloc: Global) -> Self {
+        let breaker = Breaker {
+            config: NO_CONFIG,
+            shared: fresh(),
+        };
+        Replay {
+            ours: Ours {
+                breaker,
+                pending: no_pending(),
+            },
+            places: [0; PLACES],
+            config: NO_CONFIG,
+            list: Vec::new(alloc),
+            missed: false,
+            tallies: Tallies::default(),
         }
-        at::DROP => true,
-        _ => false,
     }
-}
 
-// What a run of the turn comes to: one turn taken, and its end, or this number alone.
-fn course(due: &Numbers, n: &Line, number: u64) -> Numbers {
-    let mut next = *due;
-    if !ends(n) {
-        next[TOLD] = number;
-        next[TOLD + 1] = 0;
-        next[TOLD + 2] = 0;
-        next[TOLD + 3] = 0;
+    // What is handed in to a call: the record and the wait as they are, and all places.
+    pub(crate) fn handed(&self, asked: Asked) -> Handed {
+        Handed {
+            asked,
+            ours: self.ours,
+            places: PLACES,
+        }
     }
-    next[TAKEN] = 1;
-    next
-}
 
-fn run(list: &mut Places, want: &Want, ours: Ours, a: Asked, due: &Numbers, t: &mut Tallies) {
-    let got = numbers_of(make(list, ours, a));
-    tally(t, tallies::RUNS);
-    judge(at::RUN, &got, due, list, want, t);
-}
+    // Makes a call on a record in a place of its own, which it lends.
+    fn make(&mut self, handed: Handed) -> Made {
+        let mut ours = handed.ours;
+        let end = handed.places.min(PLACES);
+        let told = handed.asked.make(&mut ours, &mut self.places[..end]);
+        Made { told, ours }
+    }
 
-// A turn as a run: its turns used up; its limit used up; and a second turn, which is refused.
-fn runs(
-    list: &mut Places,
-    want: &Want,
-    ours: Ours,
-    a: Asked,
-    due: &Numbers,
-    n: &Line,
-    t: &mut Tallies,
-) {
-    let one = changed(a, at::KIND, at::RUN);
-    let two = changed(one, make::NUMBERS, 16);
-    let unfinished = course(due, n, 10);
-    let refused = course(due, n, 11);
-    run(
-        list,
-        want,
-        ours,
-        changed(one, make::MOST, 2),
-        &unfinished,
-        t,
-    );
-    run(list, want, ours, two, &unfinished, t);
-    run(list, want, ours, changed(two, make::MOST, 2), &refused, t);
-}
+    // Whether the places hold the list that is expected, and zeros behind it.
+    fn holds_list(&self) -> bool {
+        let behind = self.places.strip_prefix(self.list.as_slice());
+        behind.is_some_and(|places| places.iter().all(|place| *place == 0))
+    }
 
-// Makes a line's call after its refusals, and compares it. No breaker is asked for a charge, so none refuses it.
-fn call(ours: Ours, list: &mut Places, want: &mut Want, n: &Line, t: &mut Tallies) -> Ours {
-    let kind = n[at::KIND];
-    let a = asked(ours, n);
-    if !is_charge(n) {
-        all_refuse(list, want, ours, a, t);
+    // A miss where a call did not come to what is due, in what it told, the record, the wait or a place. What a wait was told is counted.
+    fn judge(&mut self, asked: Asked, made: Made, due: Made) {
+        if !matches!(asked, Asked::Build(_) | Asked::Call(_)) {
+            self.tallies.count_told(made.told.number);
+        }
+        if made != due || !self.holds_list() {
+            self.missed = true;
+        }
     }
-    let left = make(list, ours, a);
-    let after = left.ours;
-    let got = numbers_of(left);
-    if is_plain(kind) {
-        follow(want, n, t);
-    }
-    let due = due(want, n, &got);
-    judge(kind, &got, &due, list, want, t);
-    if kind == at::TURN {
-        runs(list, want, ours, a, &due, n, t);
-    }
-    if ends(n) {
-        ended_refuses(list, want, after, asked(after, n), t);
-    }
-    after
-}
 
-fn is_charge(n: &Line) -> bool {
-    if n[at::KIND] == at::CALL {
-        return n[at::OP] == at::CHARGE;
+    // Makes a call that is told this number, and changes nothing.
+    pub(crate) fn refuses(&mut self, handed: Handed, number: u32) {
+        count(&mut self.tallies.refusals);
+        let made = self.make(handed);
+        let due = Made {
+            told: alone(number),
+            ours: handed.ours,
+        };
+        self.judge(handed.asked, made, due);
     }
-    false
-}
 
-// Counts a line by its kind, and a call by its operation.
-fn tally_line(n: &Line, t: &mut Tallies) {
-    let kind = n[at::KIND];
-    if is_plain(kind) {
-        tally(t, n[at::OP] as usize);
+    // Makes a line's call, and answers what it was to come to. A line says nothing of the wait.
+    fn answers(&mut self, asked: Asked, due: Due) -> Made {
+        let handed = self.handed(asked);
+        let made = self.make(handed);
+        self.ours = made.ours;
+        let breaker = Breaker {
+            config: self.config,
+            shared: due.shared,
+        };
+        let due = Made {
+            told: due.told,
+            ours: Ours {
+                breaker,
+                ..made.ours
+            },
+        };
+        self.judge(asked, made, due);
+        due
     }
-    match kind {
-        at::BUILD => tally(t, tallies::BUILDS),
-        at::SET => tally(t, tallies::STATES),
-        at::CALL => tally(t, tallies::STEPS),
-        at::START => tally(t, tallies::STARTS),
-        at::TURN => tally(t, tallies::TURNS),
-        at::DROP => tally(t, tallies::DROPS),
-        _ => tally(t, tallies::CALLS_BETWEEN),
-    }
-}
 
-// Replays a line of so many numbers.
-pub(crate) fn replay(
-    ours: Ours,
-    list: &mut Places,
-    want: &mut Want,
-    n: &Line,
-    count: usize,
-    t: &mut Tallies,
-) -> Ours {
-    t[tallies::MISSES] = 0;
-    if !is_line(n, count, want[WANT_LEN]) {
-        tally(t, tallies::MISSES);
-        return ours;
+    // Builds a breaker in the record and the storage that the last one left: all is 0 but the settings.
+    fn build(&mut self, builder: CircuitBreakerBuilder, config: Config) {
+        self.ours.pending = no_pending();
+        self.config = config;
+        self.list.clear();
+        let due = Due {
+            told: alone(0),
+            shared: fresh(),
+        };
+        self.answers(Asked::Build(builder), due);
     }
-    tally_line(n, t);
-    let kind = n[at::KIND];
-    match kind {
-        at::BUILD => build(ours, list, want, n, t),
-        at::SET => set(ours, list, want, n, t),
-        _ => call(ours, list, want, n, t),
+
+    // Sets the record and the places. Every state of the sample is sound.
+    fn set(&mut self, shared: Shared, items: &[u64]) -> Result<(), AllocError> {
+        self.ours.breaker.shared = shared;
+        self.ours.pending = no_pending();
+        self.places.fill(0);
+        for (place, item) in self.places.iter_mut().zip(items) {
+            *place = *item;
+        }
+        self.list.clear();
+        self.list.extend_from_slice(items)?;
+        if !handle::is_sound(&self.ours.breaker, &self.places) {
+            self.missed = true;
+        }
+        Ok(())
+    }
+
+    // The expected list after a call, by the line's popped and pushed alone.
+    fn follow(&mut self, moved: Moved<'_>, len: u32) -> Result<(), AllocError> {
+        let popped = moved.popped.min(self.list.len());
+        self.list.drain(..popped);
+        self.list.extend_from_slice(moved.pushed)?;
+        if popped != moved.popped || self.list.len() != len as usize {
+            self.missed = true;
+        }
+        Ok(())
+    }
+
+    // A call on the breaker alone. No breaker is asked for a charge, so none refuses it.
+    fn call(&mut self, call: Call, due: Due, moved: Moved<'_>) -> Result<(), AllocError> {
+        let asked = Asked::Call(call);
+        self.tallies.count_call(call.op);
+        if !matches!(call.op, Op::Charge { .. }) {
+            self.refuse_call(asked);
+        }
+        self.follow(moved, due.shared.len)?;
+        self.answers(asked, due);
+        Ok(())
+    }
+
+    // A turn as a run: its turns used up; its limit used up; and a second turn, which is refused.
+    fn run(&mut self, before: Ours, turn: Turn, due: Made, ends: bool) {
+        let (one, two) = (TURN_WIDTH, 2 * TURN_WIDTH);
+        let refused = Refusal::Turn.number();
+        for (numbers, limit, number) in [
+            (one, 2, UNFINISHED),
+            (two, 1, UNFINISHED),
+            (two, 2, refused),
+        ] {
+            count(&mut self.tallies.runs);
+            let asked = Asked::Run(turn.run(numbers, limit));
+            let made = self.make(Handed {
+                asked,
+                ours: before,
+                places: PLACES,
+            });
+            let told = if ends { due.told } else { alone(number) };
+            let told = Waited { taken: 1, ..told };
+            self.judge(asked, made, Made { told, ..due });
+        }
+    }
+
+    // A turn, alone and as a run. It ends the wait where it is told another number than 0, or a ticket.
+    fn turn(&mut self, turn: Turn, due: Due) {
+        self.refuse_turn(turn);
+        let before = self.ours;
+        let due = self.answers(Asked::Turn(turn), due);
+        let ends = due.told.number != 0 || due.told.v1 == 0;
+        self.run(before, turn, due, ends);
+        if ends {
+            self.refuse_ended(turn);
+        }
+    }
+
+    fn drop_wait(&mut self, due: Due) {
+        self.refuse_wait(Asked::Drop);
+        self.answers(Asked::Drop, due);
+        let granted = Turn {
+            observed: [0, 0, 0, GRANTED, 0, 0, 0, 0].into(),
+            now_ms: 0,
+            capacity: 0,
+        };
+        self.refuse_ended(granted);
+    }
+
+    fn replay_line(&mut self, line: Line<'_>) -> Result<(), AllocError> {
+        match line {
+            Line::Build(builder, config) => {
+                count(&mut self.tallies.builds);
+                self.build(builder, config);
+            }
+            Line::State(shared, items) => {
+                count(&mut self.tallies.states);
+                self.set(shared, items)?;
+            }
+            Line::Call(call, due, moved) => {
+                count(&mut self.tallies.steps);
+                self.call(call, due, moved)?;
+            }
+            Line::Start(start, due) => {
+                count(&mut self.tallies.starts);
+                self.refuse_start(start);
+                self.answers(Asked::Start(start), due);
+            }
+            Line::Turn(turn, due) => {
+                count(&mut self.tallies.turns);
+                self.turn(turn, due);
+            }
+            Line::Drop(due) => {
+                count(&mut self.tallies.drops);
+                self.drop_wait(due);
+            }
+            Line::Between(call, due, moved) => {
+                count(&mut self.tallies.calls_between);
+                self.call(call, due, moved)?;
+            }
+        }
+        Ok(())
+    }
+
+    // Replays a line of text, and says whether it came to what it expects. One that is none of the sample's does not.
+    pub(crate) fn replay(&mut self, alloc: Global, text: &str) -> Result<bool, AllocError> {
+        self.missed = false;
+        let Ok(numbers) = numbers::all(alloc, text) else {
+            return Ok(false);
+        };
+        let Ok(line) = Line::try_from(numbers.as_slice()) else {
+            return Ok(false);
+        };
+        self.replay_line(line)?;
+        Ok(!self.missed)
     }
 }

@@ -1,80 +1,111 @@
 // What the program counts, and the names under which it shows it.
-use crate::lines::line_end;
-use std::io::Write;
+use crate::asked::Op;
+use std::io;
 
-// The tallies stand in the order in which they are shown. From 1 on those of the operations, each at its own number.
-pub(crate) type Tallies = [u64; 38];
-
-// what the present line missed
-pub(crate) const MISSES: usize = 0;
-
-pub(crate) const STARTS: usize = 16;
-
-pub(crate) const TURNS: usize = 17;
-
-pub(crate) const DROPS: usize = 18;
-
-pub(crate) const CALLS_BETWEEN: usize = 19;
-
-pub(crate) const RUNS: usize = 20;
-
-// how often waits were told 0; 1 to 11 follow
-pub(crate) const TOLD: usize = 21;
-
-pub(crate) const STEPS: usize = 33;
-
-pub(crate) const BUILDS: usize = 34;
-
-pub(crate) const STATES: usize = 35;
-
-pub(crate) const REFUSALS: usize = 36;
-
-// lines that missed something
-pub(crate) const DIFFERENCES: usize = 37;
-
-pub(crate) fn no_tallies() -> Tallies {
-    [0; 38]
+#[derive(Clone, Copy, Default)]
+pub(crate) struct Tallies {
+    admit_as: u64,
+    settle: u64,
+    abort_as: u64,
+    release_trait_probe: u64,
+    record_manual: u64,
+    reset: u64,
+    still_admits: u64,
+    try_admit: u64,
+    permit: u64,
+    peek: u64,
+    acquire_cost: u64,
+    reserve: u64,
+    available: u64,
+    charge: u64,
+    refund: u64,
+    pub(crate) starts: u64,
+    pub(crate) turns: u64,
+    pub(crate) drops: u64,
+    pub(crate) calls_between: u64,
+    pub(crate) runs: u64,
+    // how often waits were told each number of the table
+    waits_told: [u64; 12],
+    pub(crate) steps: u64,
+    pub(crate) builds: u64,
+    pub(crate) states: u64,
+    pub(crate) refusals: u64,
+    // lines that missed something
+    pub(crate) differences: u64,
 }
 
-pub(crate) fn tally(t: &mut Tallies, i: usize) {
-    if i < 38 {
-        t[i] = std::num::wrapping_add_u64(t[i], 1);
+// Counts one more.
+pub(crate) fn count(tally: &mut u64) {
+    *tally = tally.saturating_add(1);
+}
+
+impl Tallies {
+    // Counts a call by its operation.
+    pub(crate) fn count_call(&mut self, op: Op) {
+        count(match op {
+            Op::AdmitAs { .. } => &mut self.admit_as,
+            Op::Settle { .. } => &mut self.settle,
+            Op::AbortAs { .. } => &mut self.abort_as,
+            Op::ReleaseTraitProbe => &mut self.release_trait_probe,
+            Op::RecordManual { .. } => &mut self.record_manual,
+            Op::Reset => &mut self.reset,
+            Op::StillAdmits { .. } => &mut self.still_admits,
+            Op::TryAdmit { .. } => &mut self.try_admit,
+            Op::Permit { .. } => &mut self.permit,
+            Op::Peek { .. } => &mut self.peek,
+            Op::AcquireCost { .. } => &mut self.acquire_cost,
+            Op::Reserve { .. } => &mut self.reserve,
+            Op::Available { .. } => &mut self.available,
+            Op::Charge { .. } => &mut self.charge,
+            Op::Refund { .. } => &mut self.refund,
+        });
     }
-}
 
-// Counts a number that a wait was told.
-pub(crate) fn tally_told(t: &mut Tallies, number: u64) {
-    if number < 12 {
-        tally(t, TOLD + number as usize);
-    }
-}
-
-// A name and a number on a line, or nothing where there is no name.
-pub(crate) fn show(rt: &HostRuntime, name: &[u8], n: u64) {
-    if 0 < name.len() {
-        let _ = rt.stdout().write_all(name);
-        let _ = println!(rt; " {n}");
-    }
-}
-
-// Shows the tallies in their order, each under the next of the names, which end by a line feed each.
-fn show_all(rt: &HostRuntime, names: &[u8], t: &Tallies) {
-    let mut at: usize = 0;
-    let mut i: usize = 0;
-    while at < names.len() {
-        let end = line_end(names, at);
-        if i < 38 {
-            show(rt, &names[at..end - 1], t[i]);
+    // Counts a number that a wait was told.
+    pub(crate) fn count_told(&mut self, number: u32) {
+        if let Some(tally) = self.waits_told.get_mut(number as usize) {
+            count(tally);
         }
-        i += 1;
-        at = end;
     }
-}
 
-pub(crate) fn show_tallies(rt: &HostRuntime, t: &Tallies) {
-    show_all(
-        rt,
-        b"\nadmit_as\nsettle\nabort_as\nrelease_trait_probe\nrecord_manual\nreset\nstill_admits\ntry_admit\npermit\npeek\nacquire_cost\nreserve\navailable\ncharge\nrefund\nstarts\nturns\ndrops\ncalls between turns\nruns\n\nwaits told 1\n\nwaits told 3\nwaits told 4\n\nwaits told 6\n\nwaits told 8\nwaits told 9\nwaits told 10\nwaits told 11\nsteps\nbuilds\nstates\nrefusals\ndifferences\n",
-        t,
-    );
+    fn show_calls(&self, rt: &impl Print) -> io::Result<()> {
+        let named = [
+            ("admit_as", self.admit_as),
+            ("settle", self.settle),
+            ("abort_as", self.abort_as),
+            ("release_trait_probe", self.release_trait_probe),
+            ("record_manual", self.record_manual),
+            ("reset", self.reset),
+            ("still_admits", self.still_admits),
+            ("try_admit", self.try_admit),
+            ("permit", self.permit),
+            ("peek", self.peek),
+            ("acquire_cost", self.acquire_cost),
+            ("reserve", self.reserve),
+            ("available", self.available),
+            ("charge", self.charge),
+            ("refund", self.refund),
+            ("starts", self.starts),
+            ("turns", self.turns),
+            ("drops", self.drops),
+            ("calls between turns", self.calls_between),
+            ("runs", self.runs),
+        ];
+        for (name, tally) in named {
+            println!(rt; "{name} {tally}")?;
+        }
+        Ok(())
+    }
+
+    pub(crate) fn show(&self, rt: &impl Print) -> io::Result<()> {
+        self.show_calls(rt)?;
+        for number in [1usize, 3, 4, 6, 8, 9, 10, 11] {
+            println!(rt; "waits told {number} {}", self.waits_told[number])?;
+        }
+        println!(rt; "steps {}", self.steps)?;
+        println!(rt; "builds {}", self.builds)?;
+        println!(rt; "states {}", self.states)?;
+        println!(rt; "refusals {}", self.refusals)?;
+        println!(rt; "differences {}", self.differences)
+    }
 }

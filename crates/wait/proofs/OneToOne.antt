@@ -1,10 +1,8 @@
 -- An answer of a wait is known by what it tells. Assumes nothing.
-use Rattle.std.specs.Prelude.{if◌then◌else◌}
-use Prim.Native.Nat.{ℕ}
-use mathlib.Core.Path.{◌≡◌, refl, ap, ◌∙◌}
-use mathlib.Core.List.{List, [], ◌∷◌}
-use lib.Dec.{eqb}
-use Rattle.error.proofs.OneToOne.{one, read, read-refused, at}
+use Rattle.std.proofs.Common.{ℕ, ◌≡◌, refl, ap, ◌∙◌, List, [], ◌∷◌, if◌then◌else◌, Result, Ok, Err, eqb}
+use Rattle.error.specs.declared.Refusal.{Refusal}
+use Rattle.error.proofs.OneToOne.{one, read, read-refused, refused-one, at}
+use Rattle.wait.specs.declared.Wait.{Wait}
 use Rattle.wait.specs.declared.Act.{Act}
 use Rattle.wait.specs.declared.Act.TheVariants as ActIs
 use Rattle.wait.specs.declared.Ending.{Ending}
@@ -13,10 +11,6 @@ use Rattle.wait.specs.declared.Turned.{Turned}
 use Rattle.wait.specs.declared.Turned.TheVariants as TurnedIs
 use Rattle.wait.specs.declared.Ran.{Ran}
 use Rattle.wait.specs.declared.Ran.TheVariants as RanIs
-use Rattle.wait.specs.declared.Started.{Started}
-use Rattle.wait.specs.declared.Started.TheVariants as StartedIs
-use Rattle.wait.specs.declared.Dropped.{Dropped}
-use Rattle.wait.specs.declared.Dropped.TheVariants as DroppedIs
 use Rattle.wait.specs.declared.Turning.{Turning}
 use Rattle.wait.specs.declared.Running.{Running}
 use Rattle.wait.specs.declared.Dropping.{Dropping}
@@ -32,75 +26,83 @@ act_in vs =
     else if eqb (at vs 0) 3 then ActIs.Yield
     else ActIs.LookAgain
 
-abbrev good_turned : List ℕ → Turned
-good_turned [] = TurnedIs.Ends EndingIs.Done
-good_turned (k ∷ vs) = TurnedIs.Next (act_in (k ∷ vs))
+abbrev good_turned : List ℕ → Result Turned Refusal
+good_turned [] = Ok (TurnedIs.Ends EndingIs.Done)
+good_turned (k ∷ vs) = Ok (TurnedIs.Next (act_in (k ∷ vs)))
 
 abbrev bad_ending : ℕ → List ℕ → Ending
 bad_ending n vs = if eqb n 9 then EndingIs.Deadline (at vs 0) else EndingIs.Never
 
-abbrev bad_turned : ℕ → List ℕ → Turned
-bad_turned n vs = TurnedIs.Ends (bad_ending n vs)
+abbrev bad_turned : ℕ → List ℕ → Result Turned Refusal
+bad_turned n vs = Ok (TurnedIs.Ends (bad_ending n vs))
 
-pub turned-one : (a b : Turned) → turned_told a ≡ turned_told b → a ≡ b
-turned-one = one turned_told (read good_turned bad_turned TurnedIs.Refused) back
+pub turned-one : (a b : Result Turned Refusal) → turned_told a ≡ turned_told b → a ≡ b
+turned-one = one turned_told (read good_turned bad_turned Err) back
   where
-    back : (a : Turned) → read good_turned bad_turned TurnedIs.Refused (turned_told a) ≡ a
-    back (TurnedIs.Next (ActIs.Sleep n)) = refl
-    back (TurnedIs.Next (ActIs.SleepUnlessResumed n e)) = refl
-    back (TurnedIs.Next ActIs.Yield) = refl
-    back (TurnedIs.Next ActIs.LookAgain) = refl
-    back (TurnedIs.Ends EndingIs.Done) = refl
-    back (TurnedIs.Ends (EndingIs.Deadline n)) = refl
-    back (TurnedIs.Ends EndingIs.Never) = refl
-    back (TurnedIs.Refused r) = read-refused good_turned bad_turned TurnedIs.Refused r
+    back : (a : Result Turned Refusal) → read good_turned bad_turned Err (turned_told a) ≡ a
+    back (Ok (TurnedIs.Next (ActIs.Sleep n))) = refl
+    back (Ok (TurnedIs.Next (ActIs.SleepUnlessResumed n e))) = refl
+    back (Ok (TurnedIs.Next ActIs.Yield)) = refl
+    back (Ok (TurnedIs.Next ActIs.LookAgain)) = refl
+    back (Ok (TurnedIs.Ends EndingIs.Done)) = refl
+    back (Ok (TurnedIs.Ends (EndingIs.Deadline n))) = refl
+    back (Ok (TurnedIs.Ends EndingIs.Never)) = refl
+    back (Err r) = read-refused good_turned bad_turned Err r
 
-abbrev bad_ran : ℕ → List ℕ → Ran
-bad_ran n vs = if eqb n 10 then RanIs.Unfinished else RanIs.Ends (bad_ending n vs)
+abbrev bad_ran : ℕ → List ℕ → Result Ran Refusal
+bad_ran n vs = if eqb n 10 then Ok RanIs.Unfinished else Ok (RanIs.Ends (bad_ending n vs))
 
-abbrev good_ran : List ℕ → Ran
-good_ran vs = RanIs.Ends EndingIs.Done
+abbrev good_ran : List ℕ → Result Ran Refusal
+good_ran vs = Ok (RanIs.Ends EndingIs.Done)
 
-pub ran-one : (a b : Ran) → ran_told a ≡ ran_told b → a ≡ b
-ran-one = one ran_told (read good_ran bad_ran RanIs.Refused) back
+pub ran-one : (a b : Result Ran Refusal) → ran_told a ≡ ran_told b → a ≡ b
+ran-one = one ran_told (read good_ran bad_ran Err) back
   where
-    back : (a : Ran) → read good_ran bad_ran RanIs.Refused (ran_told a) ≡ a
-    back (RanIs.Ends EndingIs.Done) = refl
-    back (RanIs.Ends (EndingIs.Deadline n)) = refl
-    back (RanIs.Ends EndingIs.Never) = refl
-    back RanIs.Unfinished = refl
-    back (RanIs.Refused r) = read-refused good_ran bad_ran RanIs.Refused r
+    back : (a : Result Ran Refusal) → read good_ran bad_ran Err (ran_told a) ≡ a
+    back (Ok (RanIs.Ends EndingIs.Done)) = refl
+    back (Ok (RanIs.Ends (EndingIs.Deadline n))) = refl
+    back (Ok (RanIs.Ends EndingIs.Never)) = refl
+    back (Ok RanIs.Unfinished) = refl
+    back (Err r) = read-refused good_ran bad_ran Err r
 
-abbrev good_started : List ℕ → Started
-good_started vs = StartedIs.Made (record { phase = at vs 0; limited = at vs 1; deadline = at vs 2; seen = at vs 3; due = at vs 4; zeros = at vs 5 })
+abbrev good_started : List ℕ → Result Wait Refusal
+good_started vs = Ok (record { phase = at vs 0; limited = at vs 1; deadline = at vs 2; seen = at vs 3; due = at vs 4; zeros = at vs 5 })
 
-pub started-one : (a b : Started) → started_told a ≡ started_told b → a ≡ b
-started-one = one started_told (read good_started (λ n vs. good_started vs) StartedIs.Refused) back
+pub started-one : (a b : Result Wait Refusal) → started_told a ≡ started_told b → a ≡ b
+started-one = one started_told (read good_started (λ n vs. good_started vs) Err) back
   where
-    back : (a : Started) → read good_started (λ n vs. good_started vs) StartedIs.Refused (started_told a) ≡ a
-    back (StartedIs.Made w) = refl
-    back (StartedIs.Refused r) = read-refused good_started (λ n vs. good_started vs) StartedIs.Refused r
+    back : (a : Result Wait Refusal) → read good_started (λ n vs. good_started vs) Err (started_told a) ≡ a
+    back (Ok w) = refl
+    back (Err r) = read-refused good_started (λ n vs. good_started vs) Err r
 
-abbrev good_dropped : List ℕ → Dropped
-good_dropped vs = DroppedIs.GiveBack (at vs 0)
+abbrev good_dropped : List ℕ → Result ℕ Refusal
+good_dropped vs = Ok (at vs 0)
 
-pub dropped-one : (a b : Dropped) → dropped_told a ≡ dropped_told b → a ≡ b
-dropped-one = one dropped_told (read good_dropped (λ n vs. good_dropped vs) DroppedIs.Refused) back
+pub dropped-one : (a b : Result ℕ Refusal) → dropped_told a ≡ dropped_told b → a ≡ b
+dropped-one = one dropped_told (read good_dropped (λ n vs. good_dropped vs) Err) back
   where
-    back : (a : Dropped) → read good_dropped (λ n vs. good_dropped vs) DroppedIs.Refused (dropped_told a) ≡ a
-    back (DroppedIs.GiveBack n) = refl
-    back (DroppedIs.Refused r) = read-refused good_dropped (λ n vs. good_dropped vs) DroppedIs.Refused r
+    back : (a : Result ℕ Refusal) → read good_dropped (λ n vs. good_dropped vs) Err (dropped_told a) ≡ a
+    back (Ok n) = refl
+    back (Err r) = read-refused good_dropped (λ n vs. good_dropped vs) Err r
 
 -- ---- a whole result is known by what it tells
 
-pub turning-one : (a b : Turning) → tell_turn a ≡ tell_turn b → a ≡ b
-turning-one a b e =
-    ap (λ (x : Turned). turned_as x a.wait) (turned-one a.answer b.answer (ap (λ (x : WaitAfter). x.told) e)) ∙ ap (λ (x : WaitAfter). turned_as b.answer x.wait) e
+pub turning-one : (w : Wait) (a b : Result Turning Refusal) → tell_turn w a ≡ tell_turn w b → a ≡ b
+turning-one w (Ok a) (Ok b) e =
+    let told : a.answer ≡ b.answer = cc (turned-one (Ok a.answer) (Ok b.answer) (ap (λ (x : WaitAfter). x.told) e)) in
+    ap (λ (x : Turned). Ok (turned_as x a.wait)) told ∙ ap (λ (x : WaitAfter). Ok (turned_as b.answer x.wait)) e
+turning-one w (Ok a) (Err r) e = cc (turned-one (Ok a.answer) (Err r) (ap (λ (x : WaitAfter). x.told) e))
+turning-one w (Err r) (Ok b) e = cc (turned-one (Err r) (Ok b.answer) (ap (λ (x : WaitAfter). x.told) e))
+turning-one w (Err r) (Err q) e = ap Err (refused-one r q (ap (λ (x : WaitAfter). x.told) e))
 
 pub running-one : (a b : Running) → tell_run a ≡ tell_run b → a ≡ b
 running-one a b e =
-    ap (λ (x : Ran). ran_as x a.taken a.wait) (ran-one a.answer b.answer (ap (λ (x : RunAfter). x.told) e)) ∙ ap (λ (x : RunAfter). ran_as b.answer x.taken x.wait) e
+    ap (λ (x : Result Ran Refusal). ran_as x a.taken a.wait) (ran-one a.answer b.answer (ap (λ (x : RunAfter). x.told) e)) ∙ ap (λ (x : RunAfter). ran_as b.answer x.taken x.wait) e
 
-pub dropping-one : (a b : Dropping) → tell_drop a ≡ tell_drop b → a ≡ b
-dropping-one a b e =
-    ap (λ (x : Dropped). dropped_as x a.wait) (dropped-one a.answer b.answer (ap (λ (x : WaitAfter). x.told) e)) ∙ ap (λ (x : WaitAfter). dropped_as b.answer x.wait) e
+pub dropping-one : (w : Wait) (a b : Result Dropping Refusal) → tell_drop w a ≡ tell_drop w b → a ≡ b
+dropping-one w (Ok a) (Ok b) e =
+    let told : a.back ≡ b.back = cc (dropped-one (Ok a.back) (Ok b.back) (ap (λ (x : WaitAfter). x.told) e)) in
+    ap (λ (x : ℕ). Ok (dropped_as x a.wait)) told ∙ ap (λ (x : WaitAfter). Ok (dropped_as b.back x.wait)) e
+dropping-one w (Ok a) (Err r) e = cc (dropped-one (Ok a.back) (Err r) (ap (λ (x : WaitAfter). x.told) e))
+dropping-one w (Err r) (Ok b) e = cc (dropped-one (Err r) (Ok b.back) (ap (λ (x : WaitAfter). x.told) e))
+dropping-one w (Err r) (Err q) e = ap Err (refused-one r q (ap (λ (x : WaitAfter). x.told) e))

@@ -1,7 +1,7 @@
 -- A manner of waiting, and what every manner makes of a turn and of a dropped wait. Definitions only.
-use Rattle.std.specs.Prelude.{ℕ, Bool, not, ◌&&◌, ◌||◌, if◌then◌else◌}
+use Rattle.std.specs.Prelude.{ℕ, Bool, not, ◌&&◌, ◌||◌, if◌then◌else◌, Result, Ok, Err}
 use Rattle.error.specs.Choice.{bit}
-use Rattle.error.specs.Told.{Told}
+use Rattle.error.specs.Told.{Told, refused}
 use Rattle.error.specs.declared.Refusal.{Refusal}
 use Rattle.error.specs.declared.Refusal.TheVariants as RefusalIs
 use Rattle.wait.specs.declared.Wait.{Wait}
@@ -11,8 +11,6 @@ use Rattle.wait.specs.declared.Move.TheVariants.{Goes, Ends}
 use Rattle.wait.specs.declared.Turned.{Turned}
 use Rattle.wait.specs.declared.Turned.TheVariants as TurnedIs
 use Rattle.wait.specs.declared.Turning.{Turning}
-use Rattle.wait.specs.declared.Dropped.{Dropped}
-use Rattle.wait.specs.declared.Dropped.TheVariants as DroppedIs
 use Rattle.wait.specs.declared.Dropping.{Dropping}
 use Rattle.wait.specs.Answers.{turned_told, dropped_told}
 use Rattle.wait.specs.Turns.{ended_wait, turn_in_bounds, wait_in_bounds}
@@ -48,10 +46,10 @@ abbrev pub leaves : Move → Turning
 leaves (Goes act w) = turned_as (TurnedIs.Next act) w
 leaves (Ends e) = turned_as (TurnedIs.Ends e) ended_wait
 
-unfoldable pub turned : Manner → Wait → Observed → Turning
-turned m w t = tested m (λ r. turned_as (TurnedIs.Refused r) w) (leaves (m.moves w t)) w t
+unfoldable pub turned : Manner → Wait → Observed → Result Turning Refusal
+turned m w t = tested m Err (Ok (leaves (m.moves w t))) w t
 
--- what a call on a wait leaves: what was told, and the wait
+-- what a call on a wait leaves: what was told, and the wait, which is that handed in where it was refused
 pub record WaitAfter : Type 0 where
   pub told : Told
   pub wait : Wait
@@ -59,16 +57,18 @@ pub record WaitAfter : Type 0 where
 abbrev pub wait_after : Told → Wait → WaitAfter
 wait_after t w = record { told = t; wait = w }
 
-abbrev pub tell_turn : Turning → WaitAfter
-tell_turn r = wait_after (turned_told r.answer) r.wait
+abbrev pub tell_turn : Wait → Result Turning Refusal → WaitAfter
+tell_turn w (Ok x) = wait_after (turned_told (Ok x.answer)) x.wait
+tell_turn w (Err r) = wait_after (refused r) w
 
 -- ---- "a dropped wait gives back a held grant"
 
-abbrev pub dropped_as : Dropped → Wait → Dropping
-dropped_as answer w = record { answer = answer; wait = w }
+abbrev pub dropped_as : ℕ → Wait → Dropping
+dropped_as back w = record { back = back; wait = w }
 
-unfoldable pub dropped : Manner → Wait → Dropping
-dropped m w = tested_alone m (λ r. dropped_as (DroppedIs.Refused r) w) (dropped_as (DroppedIs.GiveBack (bit (m.holds w))) ended_wait) w
+unfoldable pub dropped : Manner → Wait → Result Dropping Refusal
+dropped m w = tested_alone m Err (Ok (dropped_as (bit (m.holds w)) ended_wait)) w
 
-abbrev pub tell_drop : Dropping → WaitAfter
-tell_drop r = wait_after (dropped_told r.answer) r.wait
+abbrev pub tell_drop : Wait → Result Dropping Refusal → WaitAfter
+tell_drop w (Ok x) = wait_after (dropped_told (Ok x.back)) x.wait
+tell_drop w (Err r) = wait_after (refused r) w

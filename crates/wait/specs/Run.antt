@@ -1,5 +1,5 @@
 -- "Each run of turns has a limit and reports how many turns it took, which equals the steps of these rules." In any manner. Definitions only.
-use Rattle.std.specs.Prelude.{ℕ, zero, suc, ◌/◌, ◌%◌, Bool, List, [], ◌∷◌, eqb, length, take, drop, get_or, if◌then◌else◌}
+use Rattle.std.specs.Prelude.{ℕ, zero, suc, ◌/◌, ◌%◌, Bool, List, [], ◌∷◌, eqb, length, take, drop, get_or, if◌then◌else◌, Result, Ok, Err}
 use Rattle.error.specs.Told.{Told}
 use Rattle.error.specs.declared.Refusal.{Refusal}
 use Rattle.error.specs.declared.Refusal.TheVariants as RefusalIs
@@ -15,7 +15,7 @@ use Rattle.wait.specs.Turns.{ended_wait}
 use Rattle.wait.specs.Manner.{Manner, tested, tested_alone}
 
 -- what a run comes to: its answer, the turns that it took, and the wait reached
-abbrev pub ran_as : Ran → ℕ → Wait → Running
+abbrev pub ran_as : Result Ran Refusal → ℕ → Wait → Running
 ran_as answer taken w = record { answer = answer; taken = taken; wait = w }
 
 -- one step more
@@ -26,15 +26,15 @@ one_step_more r = ran_as r.answer (suc r.taken) r.wait
 
 -- a refused turn isn't counted, and leaves the wait
 abbrev pub uncounted : Wait → Refusal → Running
-uncounted w r = ran_as (RanIs.Refused r) 0 w
+uncounted w r = ran_as (Err r) 0 w
 
 -- no turn is left, or the limit is reached: 11 and 1 for the wait alone, else 10
-unfoldable pub stops : Manner → Wait → Ran
-stops m w = tested_alone m RanIs.Refused RanIs.Unfinished w
+unfoldable pub stops : Manner → Wait → Result Ran Refusal
+stops m w = tested_alone m Err (Ok RanIs.Unfinished) w
 
 abbrev pub onward : Move → (Wait → Running) → Running
 onward (Goes act w) more = one_step_more (more w)
-onward (Ends e) more = ran_as (RanIs.Ends e) 1 ended_wait
+onward (Ends e) more = ran_as (Ok (RanIs.Ends e)) 1 ended_wait
 
 unfoldable pub steps : Manner → List Observed → Wait → Running
 steps m [] w = ran_as (stops m w) 0 w

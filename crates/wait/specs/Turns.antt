@@ -1,5 +1,6 @@
 -- "Waiting answers": what every manner of waiting shares: bounds, what remains, and retries. Definitions only.
-use Rattle.std.specs.Prelude.{ℕ, ◌+◌, ◌-◌, ◌^◌, min, Bool, true, false, ◌&&◌, eqb, leb, ltb, if◌then◌else◌}
+use Rattle.std.specs.Prelude.{ℕ, ◌+◌, ◌-◌, ◌^◌, min, Bool, true, false, ◌&&◌, eqb, leb, ltb, if◌then◌else◌, Result, Ok, Err}
+use Rattle.error.specs.declared.Refusal.{Refusal}
 use Rattle.error.specs.declared.Refusal.TheVariants as RefusalIs
 use Rattle.wait.specs.declared.Wait.{Wait}
 use Rattle.wait.specs.declared.Observed.{Observed}
@@ -8,8 +9,6 @@ use Rattle.wait.specs.declared.Act.TheVariants.{Sleep, SleepUnlessResumed, Yield
 use Rattle.wait.specs.declared.Ending.TheVariants.{Deadline}
 use Rattle.wait.specs.declared.Move.{Move}
 use Rattle.wait.specs.declared.Move.TheVariants.{Goes, Ends}
-use Rattle.wait.specs.declared.Started.{Started}
-use Rattle.wait.specs.declared.Started.TheVariants as StartedIs
 
 -- an ended wait keeps nothing
 abbrev pub ended_wait : Wait
@@ -43,9 +42,9 @@ abbrev pub new_wait : ℕ → Bool → ℕ → Wait
 new_wait clock true timeout = looking 1 (clock + timeout)
 new_wait clock false timeout = looking 0 0
 
-unfoldable pub started : ℕ → Bool → ℕ → Started
+unfoldable pub started : ℕ → Bool → ℕ → Result Wait Refusal
 started clock limited timeout =
-    if time_in_bounds clock && time_in_bounds timeout then StartedIs.Made (new_wait clock limited timeout) else StartedIs.Refused RefusalIs.Time
+    if time_in_bounds clock && time_in_bounds timeout then Ok (new_wait clock limited timeout) else Err RefusalIs.Time
 
 -- ---- "Remaining = … (the deadline) − clock, not below 0; no timeout means unlimited."
 

@@ -1,11 +1,10 @@
 // A wait's start, which every manner of waiting shares.
 ghost use Rattle.std.specs.Prelude.{◌≡◌};
-ghost use Rattle.wait.specs.Answers.{started_told};
 ghost use Rattle.wait.specs.Turns as Turns;
 ghost use Rattle.wait.specs.Turns.{started};
 
 use crate::bounds::time_in_bounds;
-use crate::{LOOKING, Started, Wait};
+use crate::{LOOKING, Wait};
 use error::Refusal;
 
 // A wait that looks, and has seen nothing.
@@ -24,17 +23,16 @@ fn looking(limited: u64, deadline: u64) -> Wait
 
 // A wait from this clock on, with a timeout or without.
 // Ruled out: a deadline that wraps; one that leaves a time over its bound to the first turn.
-pub fn start(clock: u64, limited: bool, timeout: u64) -> Started
-    ensures { started_told result ≡ started_told (started clock limited timeout) }
+#[tactic(auto, unfolding(crate::specs::Turns::started))]
+pub fn start(clock: u64, limited: bool, timeout: u64) -> Result<Wait, Refusal>
+    ensures { result ≡ started clock limited timeout }
 {
-    if !time_in_bounds(clock) {
-        return Started::Refused(Refusal::Time);
+    if !(time_in_bounds(clock) && time_in_bounds(timeout)) {
+        return Err(Refusal::Time);
     }
-    if !time_in_bounds(timeout) {
-        return Started::Refused(Refusal::Time);
+    if limited {
+        Ok(looking(1, clock + timeout))
+    } else {
+        Ok(looking(0, 0))
     }
-    if !limited {
-        return Started::Made(looking(0, 0));
-    }
-    Started::Made(looking(1, clock + timeout))
 }

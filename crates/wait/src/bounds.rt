@@ -10,32 +10,20 @@ pub(crate) fn time_in_bounds(ns: u64) -> bool
     ns <= LONGEST
 }
 
+#[tactic(auto, unfolding(crate::specs::Turns::wait_in_bounds))]
 pub(crate) fn wait_in_bounds(wait: Wait) -> bool
     ensures { result ≡ wait_in_bounds wait }
 {
-    if wait.deadline > LATEST {
-        return false;
-    }
-    if !time_in_bounds(wait.seen) {
-        return false;
-    }
-    wait.due <= LATEST + wait.seen
+    wait.deadline <= LATEST && time_in_bounds(wait.seen) && wait.due <= LATEST + wait.seen
 }
 
+#[tactic(auto, unfolding(crate::specs::Turns::turn_in_bounds))]
 pub(crate) fn turn_in_bounds(turn: Observed) -> bool
     ensures { result ≡ turn_in_bounds turn }
 {
-    if !time_in_bounds(turn.clock) {
-        return false;
-    }
-    if !time_in_bounds(turn.duration) {
-        return false;
-    }
-    if !time_in_bounds(turn.pause) {
-        return false;
-    }
-    if !time_in_bounds(turn.postponed_before) {
-        return false;
-    }
-    time_in_bounds(turn.postponed_after)
+    time_in_bounds(turn.clock)
+        && time_in_bounds(turn.duration)
+        && time_in_bounds(turn.pause)
+        && time_in_bounds(turn.postponed_before)
+        && time_in_bounds(turn.postponed_after)
 }

@@ -9,10 +9,10 @@ mod retries;
 
 pub use begin::start;
 use error::Refusal;
-pub use manner::{drop_as, ended_wait, in_order, ran_as, stop, turn_at};
+pub use manner::{drop_as, ended_wait, in_order, ran_as, stop};
 pub use retries::{remaining, retry, sleeping};
 
-// The phases of a wait. Any other number is an ended wait too.
+// The phases of a wait. Any other number is an ended wait too: the record is the C caller's own, and may hold any.
 pub const ENDED: u64 = 0;
 
 pub const LOOKING: u64 = 1;
@@ -27,11 +27,11 @@ pub const LATEST: u64 = 0x8000_0000_0000_0000;
 
 // A wait between two turns. Made of any numbers: each call tests them.
 #[repr(C)]
-#[derive(Clone, Copy)]
+#[derive(Clone, Copy, Debug, PartialEq, Eq)]
 pub struct Wait {
     // looking, holding a grant, or ended
     pub phase: u64,
-    // 0: no deadline
+    // 0: no deadline; a number beside it, as the C caller's own record has it
     pub limited: u64,
     pub deadline: u64,
     // the greatest postponement since the look
@@ -42,7 +42,7 @@ pub struct Wait {
     pub zeros: u64,
 }
 
-// The kinds of a reply.
+// The kinds of a reply. Numbers, since the C caller's own record may hold any.
 pub const GRANTED: u64 = 1;
 
 pub const RETRY: u64 = 2;
@@ -92,18 +92,11 @@ pub enum Move {
     Ends(Ending),
 }
 
-// Whether a turn may be taken, or why not.
-#[derive(Clone, Copy)]
-pub enum TurnTest {
-    Passes,
-    Fails(Refusal),
-}
-
+// What a turn that is not refused tells: what to do next, or how the wait ends.
 #[derive(Clone, Copy)]
 pub enum Turned {
     Next(Act),
     Ends(Ending),
-    Refused(Refusal),
 }
 
 // What a run of turns came to. Unfinished: its limit or its turns are used up.
@@ -111,37 +104,26 @@ pub enum Turned {
 pub enum Ran {
     Ends(Ending),
     Unfinished,
-    Refused(Refusal),
 }
 
-#[derive(Clone, Copy)]
-pub enum Started {
-    Made(Wait),
-    Refused(Refusal),
-}
-
-// How much a dropped wait gives back, 0 or 1.
-#[derive(Clone, Copy)]
-pub enum Dropped {
-    GiveBack(u64),
-    Refused(Refusal),
-}
-
+// What a turn that is not refused tells, and the wait after it.
 #[derive(Clone, Copy)]
 pub struct Turning {
     pub answer: Turned,
     pub wait: Wait,
 }
 
+// A run: its answer, the turns that it took, and the wait reached.
 #[derive(Clone, Copy)]
 pub struct Running {
-    pub answer: Ran,
+    pub answer: Result<Ran, Refusal>,
     pub taken: u64,
     pub wait: Wait,
 }
 
+// How much a dropped wait gives back, 0 or 1, and the ended wait.
 #[derive(Clone, Copy)]
 pub struct Dropping {
-    pub answer: Dropped,
+    pub back: u64,
     pub wait: Wait,
 }

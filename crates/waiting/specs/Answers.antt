@@ -1,10 +1,10 @@
 -- "What a caller is told": for each answer enum of a wait before a breaker, document 01's number and values of each case.
-use Rattle.std.specs.Prelude.{[], ◌∷◌, ◌++◌}
-use Rattle.error.specs.Told.{Told, tell, nothing, refused}
-use Rattle.breaker.specs.Answers.{ticket_values, delay_values, shed_told}
+use Rattle.std.specs.Prelude.{[], ◌∷◌, ◌++◌, Result}
+use Rattle.error.specs.Told.{Told, tell, nothing, told_by, told_or}
+use Rattle.error.specs.declared.Refusal.{Refusal}
+use Rattle.breaker.specs.declared.NotAdmitted.{NotAdmitted}
+use Rattle.breaker.specs.Answers.{ticket_values, delay_values, not_admitted}
 use Rattle.wait.specs.Answers.{act_values}
-use Rattle.waiting.specs.declared.Begun.{Begun}
-use Rattle.waiting.specs.declared.Begun.TheVariants as BegunIs
 use Rattle.waiting.specs.declared.Completed.{Completed}
 use Rattle.waiting.specs.declared.Completed.TheVariants as CompletedIs
 use Rattle.waiting.specs.declared.Awaited.{Awaited}
@@ -12,10 +12,8 @@ use Rattle.waiting.specs.declared.Awaited.TheVariants as AwaitedIs
 use Rattle.waiting.specs.declared.Course.{Course}
 use Rattle.waiting.specs.declared.Course.TheVariants as CourseIs
 
-abbrev pub begun_told : Begun → Told
-begun_told BegunIs.Waits = nothing
-begun_told (BegunIs.Shed d) = shed_told d
-begun_told (BegunIs.Refused r) = refused r
+abbrev pub begun_told : Result (Unit {0}) NotAdmitted → Told
+begun_told = told_or (λ _. nothing) not_admitted
 
 -- done is 0, then the ticket (1 to 4 are what the host is to do); a shed has what to refund after its delay;
 -- "inner impossible … | 8 | cost 1, capacity", "deadline | 9 | give-back 0 or 1"
@@ -25,13 +23,17 @@ completed_told (CompletedIs.Shed d refund) = tell 6 (delay_values d ++ (refund �
 completed_told (CompletedIs.Impossible cost capacity) = tell 8 (cost ∷ capacity ∷ [])
 completed_told (CompletedIs.Deadline back) = tell 9 (back ∷ [])
 
-abbrev pub awaited_told : Awaited → Told
-awaited_told (AwaitedIs.Next act) = tell 0 (act_values act)
-awaited_told (AwaitedIs.Ends e) = completed_told e
-awaited_told (AwaitedIs.Refused r) = refused r
+abbrev pub awaited_is : Awaited → Told
+awaited_is (AwaitedIs.Next act) = tell 0 (act_values act)
+awaited_is (AwaitedIs.Ends e) = completed_told e
+
+abbrev pub awaited_told : Result Awaited Refusal → Told
+awaited_told = told_by awaited_is
 
 -- "run's limit or its turns used up, wait not ended | 10"
-abbrev pub course_told : Course → Told
-course_told (CourseIs.Ends e) = completed_told e
-course_told CourseIs.Unfinished = tell 10 []
-course_told (CourseIs.Refused r) = refused r
+abbrev pub course_is : Course → Told
+course_is (CourseIs.Ends e) = completed_told e
+course_is CourseIs.Unfinished = tell 10 []
+
+abbrev pub course_told : Result Course Refusal → Told
+course_told = told_by course_is

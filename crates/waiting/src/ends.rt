@@ -7,17 +7,17 @@ ghost use Rattle.breaker.specs.Calls.{after, kept};
 ghost use Rattle.waiting.specs.Answers.{completed_told};
 ghost use Rattle.waiting.specs.Rules.{after_abort, completes};
 
-use crate::{Completed, Completion};
-use breaker::{Breaker, Ticket};
-use steps::{Verdict, abort_locked, still_admits_locked};
+use crate::Completed;
+use breaker::{Answered, Breaker, Ticket};
+use steps::{abort_locked, still_admits_locked};
 use wait::Ending;
 
 // The ticket is aborted.
-fn given_up(answer: Completed, breaker: Breaker, ticket: Ticket) -> Completion
+fn given_up(answer: Completed, breaker: Breaker, ticket: Ticket) -> Answered<Completed>
     ensures { (c : Config) (st : State) → breaker ≡ stored c st
         → after (completed_told result.answer) result.breaker (padded st.list) ≡ kept c (after_abort (completed_told answer) ticket st) }
 {
-    Completion {
+    Answered {
         answer,
         breaker: abort_locked(breaker, ticket, false),
     }
@@ -30,19 +30,23 @@ pub(crate) fn complete(
     ending: Ending,
     now_ms: u64,
     capacity: u32,
-) -> Completion
+) -> Answered<Completed>
     ensures { (c : Config) (st : State) → breaker ≡ stored c st
         → after (completed_told result.answer) result.breaker (padded st.list) ≡ kept c (completes ending now_ms capacity ticket st) }
 {
     match ending {
         Ending::Deadline(back) => given_up(Completed::Deadline(back), breaker, ticket),
-        Ending::Never => given_up(Completed::Impossible(1, capacity as u64), breaker, ticket),
+        Ending::Never => given_up(
+            Completed::Impossible(1, u64::from(capacity)),
+            breaker,
+            ticket,
+        ),
         Ending::Done => match still_admits_locked(breaker, now_ms, ticket) {
-            Verdict::Admits => Completion {
+            Ok(()) => Answered {
                 answer: Completed::Admitted(ticket),
                 breaker,
             },
-            Verdict::Shed(d) => given_up(Completed::Shed(d, 1), breaker, ticket),
+            Err(delay) => given_up(Completed::Shed(delay, 1), breaker, ticket),
         },
     }
 }

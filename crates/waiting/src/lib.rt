@@ -7,21 +7,14 @@ mod ends;
 use breaker::{Breaker, Delay, Ticket};
 pub use calls::{drop_pending, run, start, turn};
 use error::Refusal;
-use wait::{Act, Dropped, Wait};
+use wait::{Act, Wait};
 
 // A wait and the ticket that was admitted for it.
 #[repr(C)]
-#[derive(Clone, Copy)]
+#[derive(Clone, Copy, Debug, PartialEq, Eq)]
 pub struct Pending {
     pub wait: Wait,
     pub ticket: Ticket,
-}
-
-#[derive(Clone, Copy)]
-pub enum Begun {
-    Waits,
-    Shed(Delay),
-    Refused(Refusal),
 }
 
 // How a wait ends. Shed: the breaker no longer admits; the delay, and how much to refund. Impossible: cost and capacity. Deadline: how
@@ -34,59 +27,31 @@ pub enum Completed {
     Deadline(u64),
 }
 
+// What a turn comes to: something to do before the next, or the end.
 #[derive(Clone, Copy)]
 pub enum Awaited {
     Next(Act),
     Ends(Completed),
-    Refused(Refusal),
 }
 
-// What a run of turns came to. Unfinished: its limit or its turns are used up.
+// What a run of turns comes to. Unfinished: its limit or its turns are used up.
 #[derive(Clone, Copy)]
 pub enum Course {
     Ends(Completed),
     Unfinished,
-    Refused(Refusal),
 }
 
-// A run's course, and the turns that it took.
+// A run's course, or why a turn of it was refused, and the turns that it took before.
 #[derive(Clone, Copy)]
 pub struct Progress {
-    pub course: Course,
+    pub course: Result<Course, Refusal>,
     pub taken: u64,
 }
 
+// The answer of a call, and the record and the wait after it.
 #[derive(Clone, Copy)]
-pub struct Beginning {
-    pub answer: Begun,
+pub struct WithWait<A> {
+    pub answer: A,
     pub breaker: Breaker,
     pub pending: Pending,
-}
-
-#[derive(Clone, Copy)]
-pub struct Awaiting {
-    pub answer: Awaited,
-    pub breaker: Breaker,
-    pub pending: Pending,
-}
-
-#[derive(Clone, Copy)]
-pub struct Proceeding {
-    pub answer: Progress,
-    pub breaker: Breaker,
-    pub pending: Pending,
-}
-
-#[derive(Clone, Copy)]
-pub struct Leaving {
-    pub answer: Dropped,
-    pub breaker: Breaker,
-    pub pending: Pending,
-}
-
-// What a wait's end came to, and the record after it.
-#[derive(Clone, Copy)]
-pub struct Completion {
-    pub answer: Completed,
-    pub breaker: Breaker,
 }

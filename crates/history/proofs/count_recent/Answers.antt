@@ -1,24 +1,31 @@
--- `history::count_recent` meets its contract: the two parts that are counted are what is left of the list. Assumes nothing.
-use Rattle.std.proofs.Common.{ℕ, ◌+◌, ◌-◌, leb, take, drop, sym, ap, ◌∙◌, ap₂, arith, if◌then◌else◌}
-use Rattle.history.specs.Items.{recent}
-use Rattle.history.proofs.Counts.{count-take, sum-append}
-use Rattle.history.proofs.Recorded.{part-from}
+-- `history::count_recent` meets its contract. Assumes nothing.
+use Rattle.std.proofs.Common.{◌≡◌, ◌-◌, leb, length, drop, ap, arith}
+use Rattle.std.proofs.lemmas.List.{drop_min, take_rest}
+use Rattle.history.specs.Items.{recent, view}
+use Rattle.history.proofs.Laws.{or-small}
+use Rattle.history.proofs.Counts.{count-take}
+use Rattle.history.proofs.count_recent.Goals.{After-min-k, After-compared}
 use Rattle.history.proofs.count_recent.Goals as goal
 
-pub overflow_cast-before : goal.overflow_cast-before
-overflow_cast-before c =
-    omega (arith, c.compared-before.ensures, count-take (λ t. leb c.args.cutoff t) (c.next_even-even.result - c.within-k.result) (drop c.within-k.result c.args.list.now), c.within-n.ensures, c.next_even-even.ensures)
+-- what is counted
+part : (c : After-min-k) → recent c.args.cutoff (drop c.min-k.result c.view-times.result.now) ≡ recent c.args.cutoff (drop c.args.first (view c.args.len c.args.list.now))
+part c = rw (c.min-k.ensures, c.view-times.ensures.value, drop_min)
 
-pub overflow_cast-result : goal.overflow_cast-result
-overflow_cast-result c =
-    omega (arith, c.at_or_after.ensures, count-take (λ t. leb c.args.cutoff t) (c.within-n.result - c.next_even-even.result) (drop c.next_even-even.result c.args.list.now), c.within-n.ensures)
+pub returns-then-differences-cutoff-eq0 : goal.returns-then-differences-cutoff-eq0
+returns-then-differences-cutoff-eq0 c =
+    let h = or-small c.differences.result c.args.cutoff c.if-differences-cutoff-eq0.true in
+    omega (arith, c.differences.ensures h.0 h.1, part (goal.at.returns-then-differences-cutoff-eq0 c).After-min-k)
 
-pub overflow_add-result : goal.overflow_add-result
-overflow_add-result c =
-    omega (arith, c.compared-before.ensures, count-take (λ t. leb c.args.cutoff t) (c.next_even-even.result - c.within-k.result) (drop c.within-k.result c.args.list.now), c.at_or_after.ensures, count-take (λ t. leb c.args.cutoff t) (c.within-n.result - c.next_even-even.result) (drop c.next_even-even.result c.args.list.now), c.within-n.ensures, c.next_even-even.ensures)
+pub overflow_cast-result-2 : goal.overflow_cast-result-2
+overflow_cast-result-2 c =
+    omega (arith, c.compared.ensures, count-take (λ t. leb c.args.cutoff t) (length c.view-times.result.now - c.min-k.result) (drop c.min-k.result c.view-times.result.now))
 
 pub returns : goal.returns
 returns c =
-    ap₂ (λ (a b : ℕ). a + b) c.compared-before.ensures c.at_or_after.ensures
-    ∙ sym (sum-append (λ t. if leb c.args.cutoff t then 1 else 0) (take (c.next_even-even.result - c.within-k.result) (drop c.within-k.result c.args.list.now)) (take (c.within-n.result - c.next_even-even.result) (drop c.next_even-even.result c.args.list.now)))
-    ∙ ap (recent c.args.cutoff) (part-from c.args.first c.args.len c.within-n.result c.within-k.result c.next_even-even.result c.args.list.now c.within-n.ensures c.within-k.ensures c.next_even-even.ensures.0 c.next_even-even.ensures.1)
+    omega (
+      arith,
+      c.compared.ensures,
+      count-take (λ t. leb c.args.cutoff t) (length c.view-times.result.now - c.min-k.result) (drop c.min-k.result c.view-times.result.now),
+      ap (recent c.args.cutoff) (take_rest c.view-times.result.now c.min-k.result),
+      part (goal.at.returns c).After-min-k,
+    )

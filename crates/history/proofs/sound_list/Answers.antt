@@ -1,44 +1,29 @@
--- `history::sound_list` meets its contract: each `return` is what the tests on its way make of the definition. Assumes nothing.
-use Rattle.std.proofs.Common.{◌≡◌, true, ◌&&◌, ltb, sym, ◌∙◌, arith, length-take-le, le-ltb, lt-ltb, eq-eqb, ne_eqb}
-use borrow.Author.Tests.{not-true, not-false}
-use Rattle.history.specs.Items.{sound_list, are_items, fits, view}
-use Rattle.history.proofs.Sound.{fits_le}
-use Rattle.history.proofs.sound_list.Goals.{After-bits_from-past, Else-not-may_have}
+-- `history::sound_list` meets its contract: its tests are those of the definition. Assumes nothing.
+use Rattle.std.proofs.Common.{◌≡◌, ◌&&◌, eqb, length, drop, ◌∙◌, eq-eqb, ne_eqb}
+use Rattle.history.specs.Items.{all_below, are_items, fits, sound_list, view}
+use Rattle.history.proofs.Sound.{by_tests, no_bits}
+use Rattle.history.proofs.sound_list.Goals.{Joined-may_have, then-list-eq-PLACES, else-list-eq-PLACES, then-may_have, else-may_have}
 use Rattle.history.proofs.sound_list.Goals as goal
 
-pub returns-then-list-ne-PLACES : goal.returns-then-list-ne-PLACES
-unfolding sound_list
-returns-then-list-ne-PLACES c = simp (ne_eqb _ _ c.if-list-ne-PLACES.true)
+lies : (c : Joined-may_have) → c.if-list-eq-PLACES.value ≡ (eqb (length c.args.list.now) 4096 && fits c.args.items c.args.len)
+lies c =
+    elim c.if-list-eq-PLACES.branch [
+      | then-list-eq-PLACES v ↦ rw (eq-eqb _ _ v.if-list-eq-PLACES.true) (v.value-is ∙ v.may_have.ensures)
+      | else-list-eq-PLACES v ↦ rw (ne_eqb _ _ v.if-list-eq-PLACES.false) (v.value-is ∙ ne_eqb _ _ v.if-list-eq-PLACES.false)
+    ]
 
-pub returns-then-not-may_have : goal.returns-then-not-may_have
-unfolding sound_list
-returns-then-not-may_have c = simp (eq-eqb _ _ c.if-list-ne-PLACES.false, ← c.may_have.ensures, not-true c.may_have.result c.if-not-may_have.true-raw)
+empty : (c : Joined-may_have) → c.if-may_have.value ≡ (c.if-list-eq-PLACES.value && all_below 1 (drop c.args.len c.args.list.now))
+empty c =
+    elim c.if-may_have.branch [
+      | then-may_have w ↦ rw w.if-may_have.true (w.value-is ∙ no_bits w.any_bits.result ∙ w.any_bits.ensures 0)
+      | else-may_have w ↦ rw w.if-may_have.false (w.value-is ∙ w.if-may_have.false)
+    ]
 
-fitting : (c : Else-not-may_have) → fits c.args.items c.args.len ≡ true
-fitting c = sym c.may_have.ensures ∙ not-false c.may_have.result c.if-not-may_have.false-raw
+tested : (c : Joined-may_have) → (c.if-may_have.value && are_items c.args.items (view c.args.len c.args.list.now)) ≡ sound_list c.args.items c.args.len c.args.list.now
+tested c = by_tests c.args.items c.args.len c.args.list.now c.if-list-eq-PLACES.value c.if-may_have.value (lies c) (empty c)
 
-pub bits_from-past-requires : goal.bits_from-past-requires
-bits_from-past-requires c =
-    (c.if-list-ne-PLACES.false, fits_le c.args.items c.args.len (fitting (goal.at.bits_from-past-requires c).Else-not-may_have))
+pub returns-then-any_bits-eq0 : goal.returns-then-any_bits-eq0
+returns-then-any_bits-eq0 c = c.are_items.ensures ∙ rw c.if-any_bits-eq0.true at (tested (goal.at.returns-then-any_bits-eq0 c).Joined-may_have)
 
--- what is left to test: the bits past the list, and the items
-past : (c : After-bits_from-past) → sound_list c.args.items c.args.len c.args.list.now ≡ (ltb c.bits_from-past.result 1 && are_items c.args.items (view c.args.len c.args.list.now))
-unfolding sound_list
-past c = simp (eq-eqb _ _ c.if-list-ne-PLACES.false, sym c.may_have.ensures ∙ not-false c.may_have.result c.if-not-may_have.false-raw, ← c.bits_from-past.ensures 0)
-
-pub returns-then-past-ge1 : goal.returns-then-past-ge1
-returns-then-past-ge1 c = sym (past (goal.at.returns-then-past-ge1 c).After-bits_from-past ∙ simp (le-ltb _ _ c.if-past-ge1.true))
-
-pub slice_bounds-any_bits-end : goal.slice_bounds-any_bits-end
-slice_bounds-any_bits-end c =
-    sym (length-take-le _ _ (omega (arith, fits_le c.args.items c.args.len (fitting (goal.at.slice_bounds-any_bits-end c).Else-not-may_have), c.if-list-ne-PLACES.false)))
-
-pub returns-in-Nothing : goal.returns-in-Nothing
-returns-in-Nothing c = sym (past (goal.at.returns-in-Nothing c).After-bits_from-past ∙ simp (lt-ltb _ _ c.if-past-ge1.false, c.in-Nothing.is))
-
-pub returns-in-Outcomes : goal.returns-in-Outcomes
-returns-in-Outcomes c =
-    c.any_bits.ensures 1 ∙ sym (past (goal.at.returns-in-Outcomes c).After-bits_from-past ∙ simp (lt-ltb _ _ c.if-past-ge1.false, c.in-Outcomes.is))
-
-pub returns-in-Times : goal.returns-in-Times
-returns-in-Times c = sym (past (goal.at.returns-in-Times c).After-bits_from-past ∙ simp (lt-ltb _ _ c.if-past-ge1.false, c.in-Times.is))
+pub returns-else-any_bits-eq0 : goal.returns-else-any_bits-eq0
+returns-else-any_bits-eq0 c = c.if-any_bits-eq0.false ∙ rw c.if-any_bits-eq0.false at (tested (goal.at.returns-else-any_bits-eq0 c).Joined-may_have)

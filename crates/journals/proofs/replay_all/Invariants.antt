@@ -1,9 +1,9 @@
 -- `journals::replay_all`: no more journals than bytes are behind it.
-use Rattle.std.proofs.Common.{length, ◌-◌, ◌≤◌}
+use Rattle.std.proofs.Common.{◌+◌, ◌≤◌, length}
 use Rattle.journals.proofs.replay_all.Given as goal
 
-abbrev pub invariant-loop-at : goal.invariant-loop-at
-invariant-loop-at l = (l.journals ≤ l.at) × (l.differ ≤ l.journals) × (l.at ≤ length l.s)
+abbrev pub invariant-loop-case : goal.invariant-loop-case
+invariant-loop-case l = (l.journals + length l.rest ≤ length l.s) × (l.differ ≤ l.journals)
 
-abbrev pub decreases-loop-at : goal.decreases-loop-at
-decreases-loop-at l = length l.s - l.at
+abbrev pub decreases-loop-case : goal.decreases-loop-case
+decreases-loop-case l = length l.rest

@@ -3,4 +3,4 @@ use Rattle.lines.proofs.CallLines.{call-read}
 use Rattle.lines.proofs.read_call.Goals as goal
 
 pub returns : goal.returns
-returns c = call-read c.args.s.now c.args.at c.take_call.result c.take_call.ensures.result_value c.take_call.ensures.result_in_bounds
+returns c = call-read _ _ c.take_call.ensures

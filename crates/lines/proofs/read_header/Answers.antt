@@ -3,4 +3,4 @@ use Rattle.lines.proofs.HeaderLines.{header_read}
 use Rattle.lines.proofs.read_header.Goals as goal
 
 pub returns : goal.returns
-returns c = header_read c.args.s.now c.args.at c.take_header.result c.take_header.ensures.result_value c.take_header.ensures.result_in_bounds
+returns c = header_read _ _ c.take_header.ensures

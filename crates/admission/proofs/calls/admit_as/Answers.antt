@@ -1,28 +1,17 @@
 -- `admission::calls::admit_as` meets its contract: each answer of the step, once the breaker is tested. Assumes nothing.
-use mathlib.Core.Path.{◌≡◌, sym, ◌∙◌}
-use mathlib.Core.Bool.{true}
-use Rattle.breaker.specs.Record.{state, sound}
-use Rattle.breaker.specs.Calls as Calls
-use Rattle.admission.proofs.Admitting.{admitted-shed, admitted-granted}
-use Rattle.breaker.proofs.Guard.{tested-sound, sound-refused, sound-done}
-use Rattle.steps.proofs.Holding.{holds}
-use Rattle.admission.proofs.calls.admit_as.Goals.{In-Sound}
+use Rattle.std.proofs.Common.{refl, sym, ◌∙◌}
+use Rattle.breaker.specs.Rules.{admit_as}
+use Rattle.breaker.specs.Calls.{answered}
+use Rattle.admission.proofs.Admitting.{call-shed, call-granted, passed-shed, admit_as-keeps}
 use Rattle.admission.proofs.calls.admit_as.Goals as goal
 
-tested : (c : In-Sound) → sound c.args.breaker c.args.list.now ≡ true
-tested c =
-    tested-sound c.args.breaker c.args.list.now (sym c.in-Sound.is ∙ c.test.ensures)
+pub returns-in_err-admit_as_locked : goal.returns-in_err-admit_as_locked
+returns-in_err-admit_as_locked c =
+    rw (passed-shed c.from_residual-in_err-admit_as_locked.result c.in_err-admit_as_locked.field-0.0 c.from_residual-in_err-admit_as_locked.ensures)
+    (call-shed c.args.breaker c.args.list.now (sym c.in_ok-test.was ∙ c.test.ensures) (λ p st. admit_as c.args.via_trait p c.args.now_ms st) (λ p st. admit_as-keeps c.args.via_trait p c.args.now_ms st)
+    c.admit_as_locked.result c.admit_as_locked.ensures answered _ c.in_err-admit_as_locked.field-0.0 c.in_err-admit_as_locked.was refl)
 
-pub returns-in-Refused : goal.returns-in-Refused
-returns-in-Refused c =
-    sound-refused (Calls.admission c.args.via_trait c.args.now_ms) c.args.breaker c.args.list.now c.in-Refused.r (sym c.in-Refused.is ∙ c.test.ensures)
-
-pub returns-in-Shed : goal.returns-in-Shed
-returns-in-Shed c =
-    admitted-shed c.args.now_ms c.args.breaker c.args.list.now (tested (goal.at.returns-in-Shed c).In-Sound) c.args.via_trait c.in-Shed.d (sym c.in-Shed.is ∙ c.admit_as_locked.ensures c.args.breaker.config (state c.args.breaker c.args.list.now) (holds c.args.breaker c.args.list.now (tested (goal.at.returns-in-Shed c).In-Sound)).0)
-    ∙ sound-done (Calls.admission c.args.via_trait c.args.now_ms) c.args.breaker c.args.list.now (tested (goal.at.returns-in-Shed c).In-Sound)
-
-pub returns-in-Granted : goal.returns-in-Granted
-returns-in-Granted c =
-    admitted-granted c.args.now_ms c.args.breaker c.args.list.now (tested (goal.at.returns-in-Granted c).In-Sound) c.args.via_trait c.in-Granted.t c.in-Granted.next (sym c.in-Granted.is ∙ c.admit_as_locked.ensures c.args.breaker.config (state c.args.breaker c.args.list.now) (holds c.args.breaker c.args.list.now (tested (goal.at.returns-in-Granted c).In-Sound)).0)
-    ∙ sound-done (Calls.admission c.args.via_trait c.args.now_ms) c.args.breaker c.args.list.now (tested (goal.at.returns-in-Granted c).In-Sound)
+pub returns : goal.returns
+returns c =
+    call-granted c.args.breaker c.args.list.now (sym c.in_ok-test.was ∙ c.test.ensures) (λ p st. admit_as c.args.via_trait p c.args.now_ms st) (λ p st. admit_as-keeps c.args.via_trait p c.args.now_ms st)
+    c.admit_as_locked.result c.admit_as_locked.ensures answered _ c.in_ok-admit_as_locked.field-0 c.in_ok-admit_as_locked.was c.in_ok-admit_as_locked.field-0.breaker (λ st. st) (λ c st q. q) (λ st. refl) (λ st. refl)

@@ -1,42 +1,27 @@
 -- `admission::calls::try_admit` meets its contract: each answer of the admission with the inner reply. Assumes nothing.
-use mathlib.Core.Path.{◌≡◌, sym, ap, ◌∙◌}
-use mathlib.Core.Bool.{true}
-use Rattle.breaker.specs.Record.{state, sound}
-use Rattle.breaker.specs.Calls as Calls
-use Rattle.breaker.specs.Rules as Rules
-use mathlib.Core.List.{[], ◌∷◌}
-use Rattle.error.specs.Told.{tell}
-use Rattle.breaker.specs.declared.Decision.{Decision}
-use Rattle.admission.proofs.Admitting.{tried-shed, tried-granted, tried-back}
-use Rattle.breaker.proofs.Guard.{tested-sound, sound-refused, sound-done}
-use Rattle.steps.proofs.Holding.{holds}
-use Rattle.admission.proofs.calls.try_admit.Goals.{In-Sound}
+use Rattle.std.proofs.Common.{sym, ◌∙◌, false, refl}
+use Rattle.breaker.specs.Rules.{admit, aborted}
+use Rattle.breaker.specs.Calls.{try_inner}
+use Rattle.breaker.proofs.Finishes.{aborted-list}
+use Rattle.admission.proofs.Admitting.{call-shed, call-granted, passed-shed, admit-keeps, tried-shed}
+use Rattle.admission.proofs.calls.try_admit.Goals.{in-Retry, in-Impossible}
 use Rattle.admission.proofs.calls.try_admit.Goals as goal
 
-tested : (c : In-Sound) → sound c.args.breaker c.args.list.now ≡ true
-tested c =
-    tested-sound c.args.breaker c.args.list.now (sym c.in-Sound.is ∙ c.test.ensures)
-
-pub returns-in-Refused : goal.returns-in-Refused
-returns-in-Refused c =
-    sound-refused (Calls.try_admit c.args.inner c.args.capacity c.args.now_ms) c.args.breaker c.args.list.now c.in-Refused.r (sym c.in-Refused.is ∙ c.test.ensures)
-
-pub returns-in-Shed : goal.returns-in-Shed
-returns-in-Shed c =
-    tried-shed c.args.now_ms c.args.breaker c.args.list.now (tested (goal.at.returns-in-Shed c).In-Sound) c.args.inner c.args.capacity c.in-Shed.d (sym c.in-Shed.is ∙ c.admit_locked.ensures c.args.breaker.config (state c.args.breaker c.args.list.now) (holds c.args.breaker c.args.list.now (tested (goal.at.returns-in-Shed c).In-Sound)).0) ∙ sound-done (Calls.try_admit c.args.inner c.args.capacity c.args.now_ms) c.args.breaker c.args.list.now (tested (goal.at.returns-in-Shed c).In-Sound)
+pub returns-in_err-admitted : goal.returns-in_err-admitted
+returns-in_err-admitted c =
+    rw (passed-shed c.from_residual-in_err-admitted.result c.in_err-admitted.field-0.0 c.from_residual-in_err-admitted.ensures)
+    (call-shed c.args.breaker c.args.list.now (sym c.in_ok-test.was ∙ c.test.ensures) (λ p st. admit p c.args.now_ms st) (λ p st. admit-keeps p c.args.now_ms st)
+    c.admit_locked.result c.admit_locked.ensures (try_inner c.args.inner c.args.capacity) _ c.in_err-admitted.field-0.0 c.in_err-admitted.was (tried-shed c.args.inner c.args.capacity c.in_err-admitted.field-0.0 _))
 
 pub returns-in-Acquired : goal.returns-in-Acquired
 returns-in-Acquired c =
-    tried-granted c.args.now_ms c.args.breaker c.args.list.now (tested (goal.at.returns-in-Acquired c).In-Sound) c.args.inner c.args.capacity c.in-Granted.t c.in-Granted.next (sym c.in-Granted.is ∙ c.admit_locked.ensures c.args.breaker.config (state c.args.breaker c.args.list.now) (holds c.args.breaker c.args.list.now (tested (goal.at.returns-in-Acquired c).In-Sound)).0) c.in-Acquired.is ∙ sound-done (Calls.try_admit c.args.inner c.args.capacity c.args.now_ms) c.args.breaker c.args.list.now (tested (goal.at.returns-in-Acquired c).In-Sound)
+    call-granted c.args.breaker c.args.list.now (sym c.in_ok-test.was ∙ c.test.ensures) (λ p st. admit p c.args.now_ms st) (λ p st. admit-keeps p c.args.now_ms st)
+    c.admit_locked.result c.admit_locked.ensures (try_inner c.args.inner c.args.capacity) _ c.in_ok-admitted.admitted c.in_ok-admitted.was c.in_ok-admitted.admitted.breaker (λ st. st) (λ c st q. q) (λ st. refl)
+    (λ st. rw c.in-Acquired.is)
 
-pub returns-in-Retry : goal.returns-in-Retry
-returns-in-Retry c =
-    tried-back c.args.now_ms c.args.breaker c.args.list.now (tested (goal.at.returns-in-Retry c).In-Sound) c.args.inner c.args.capacity c.in-Granted.t c.in-Granted.next (sym c.in-Granted.is ∙ c.admit_locked.ensures c.args.breaker.config (state c.args.breaker c.args.list.now) (holds c.args.breaker c.args.list.now (tested (goal.at.returns-in-Retry c).In-Sound)).0) (tell 7 []) c.abort_locked.result (λ st' q. c.abort_locked.ensures c.args.breaker.config st' q)
-    (λ st'. ap (λ (i : Decision). Calls.try_inner i c.args.capacity (Rules.granted c.in-Granted.t st') (state c.args.breaker c.args.list.now)) c.in-Retry.is)
-    ∙ sound-done (Calls.try_admit c.args.inner c.args.capacity c.args.now_ms) c.args.breaker c.args.list.now (tested (goal.at.returns-in-Retry c).In-Sound)
-
-pub returns-in-Impossible : goal.returns-in-Impossible
-returns-in-Impossible c =
-    tried-back c.args.now_ms c.args.breaker c.args.list.now (tested (goal.at.returns-in-Impossible c).In-Sound) c.args.inner c.args.capacity c.in-Granted.t c.in-Granted.next (sym c.in-Granted.is ∙ c.admit_locked.ensures c.args.breaker.config (state c.args.breaker c.args.list.now) (holds c.args.breaker c.args.list.now (tested (goal.at.returns-in-Impossible c).In-Sound)).0) (tell 8 (1 ∷ c.args.capacity ∷ [])) c.abort_locked-in-Impossible.result (λ st' q. c.abort_locked-in-Impossible.ensures c.args.breaker.config st' q)
-    (λ st'. ap (λ (i : Decision). Calls.try_inner i c.args.capacity (Rules.granted c.in-Granted.t st') (state c.args.breaker c.args.list.now)) c.in-Impossible.is)
-    ∙ sound-done (Calls.try_admit c.args.inner c.args.capacity c.args.now_ms) c.args.breaker c.args.list.now (tested (goal.at.returns-in-Impossible c).In-Sound)
+pub returns : goal.returns
+returns c =
+    call-granted c.args.breaker c.args.list.now (sym c.in_ok-test.was ∙ c.test.ensures) (λ p st. admit p c.args.now_ms st) (λ p st. admit-keeps p c.args.now_ms st)
+    c.admit_locked.result c.admit_locked.ensures (try_inner c.args.inner c.args.capacity) _ c.in_ok-admitted.admitted c.in_ok-admitted.was c.abort_locked.result (aborted c.in_ok-admitted.admitted.answer false)
+    c.abort_locked.ensures (aborted-list c.in_ok-admitted.admitted.answer false)
+    (λ st. elim c.match-inner.branch [ in-Retry w ↦ rw (w.in-Retry.is, w.answer-is) | in-Impossible w ↦ rw (w.in-Impossible.is, w.answer-is) ])

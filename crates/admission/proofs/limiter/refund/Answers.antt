@@ -1,27 +1,16 @@
 -- `admission::limiter::refund` meets its contract: the step, once the breaker is tested. Assumes nothing.
-use mathlib.Core.Path.{◌≡◌, refl, sym, ◌∙◌}
-use mathlib.Core.Bool.{true}
-use Rattle.breaker.specs.Record.{state, sound}
-use Rattle.breaker.specs.Calls as Calls
+use Rattle.std.proofs.Common.{refl, sym, ◌∙◌}
+use Rattle.breaker.specs.Record.{state}
 use Rattle.breaker.specs.Rules as Rules
-use mathlib.Core.List.{[], ◌∷◌}
-use Rattle.error.specs.Told.{tell}
+use Rattle.breaker.specs.Calls as Calls
+use Rattle.breaker.proofs.Guard.{tested-sound, sound-fields}
 use Rattle.steps.proofs.Aborting.{released-list}
-use Rattle.breaker.proofs.Guard.{tested-sound, sound-refused, sound-fields}
 use Rattle.steps.proofs.Holding.{holds}
-use Rattle.admission.proofs.limiter.refund.Goals.{In-Sound}
 use Rattle.admission.proofs.limiter.refund.Goals as goal
 
-tested : (c : In-Sound) → sound c.args.breaker c.args.list.now ≡ true
-tested c =
-    tested-sound c.args.breaker c.args.list.now (sym c.in-Sound.is ∙ c.test.ensures)
-
-pub returns-in-Refused : goal.returns-in-Refused
-returns-in-Refused c =
-    sound-refused (Calls.refund c.args.cost) c.args.breaker c.args.list.now c.in-Refused.r (sym c.in-Refused.is ∙ c.test.ensures)
-
-pub returns-in-Sound : goal.returns-in-Sound
-returns-in-Sound c =
-    sound-fields (Calls.refund c.args.cost) c.args.breaker c.args.list.now (tested (goal.at.returns-in-Sound c).In-Sound) (tell 0 (c.args.cost ∷ [])) (Rules.released (state c.args.breaker c.args.list.now)) c.release_locked.result refl
-    (c.release_locked.ensures c.args.breaker.config (state c.args.breaker c.args.list.now) (holds c.args.breaker c.args.list.now (tested (goal.at.returns-in-Sound c).In-Sound)).0)
-    (released-list (state c.args.breaker c.args.list.now))
+pub returns : goal.returns
+returns c =
+    let ok = tested-sound c.args.breaker c.args.list.now (sym c.in_ok-test.was ∙ c.test.ensures) in
+    let st = state c.args.breaker c.args.list.now in
+    sound-fields (Calls.refund c.args.cost) c.args.breaker c.args.list.now ok _ (Rules.released st) c.release_locked.result refl
+    (c.release_locked.ensures c.args.breaker.config st (holds c.args.breaker c.args.list.now ok).0) (released-list st)

@@ -1,22 +1,17 @@
 -- `blocks::block::may_hold` meets its contract. Assumes nothing.
-use Prim.Native.Nat.{◌+◌}
-use native.Mathlib.Omega.{arith}
-use borrow.Author.Tests.{lt-ltb, le-ltb}
+use Rattle.std.proofs.Common.{arith}
+use Rattle.std.proofs.lemmas.Bool.Decides.{nat_tests}
 use Rattle.blocks.specs.Block.{may_hold}
 use Rattle.blocks.proofs.block.may_hold.Goals as goal
 
-pub returns-then-index-count : goal.returns-then-index-count
+pub returns-then-used-eq-BODY : goal.returns-then-used-eq-BODY
 unfolding may_hold
-returns-then-index-count c = simp (le-ltb c.args.index c.args.count c.if-index-count.true)
+returns-then-used-eq-BODY c = grind (arith, nat_tests)
 
-pub returns-then-count-index-gt1 : goal.returns-then-count-index-gt1
+pub returns-else-used-eq-BODY : goal.returns-else-used-eq-BODY
 unfolding may_hold
-returns-then-count-index-gt1 c = simp (lt-ltb c.args.index c.args.count c.if-index-count.false, lt-ltb (c.args.index + 1) c.args.count (omega (arith, c.if-count-index-gt1.true)))
+returns-else-used-eq-BODY c = grind (arith, nat_tests)
 
-pub returns-then-used-eq0 : goal.returns-then-used-eq0
+pub returns-else-used-le-BODY : goal.returns-else-used-le-BODY
 unfolding may_hold
-returns-then-used-eq0 c = simp (lt-ltb c.args.index c.args.count c.if-index-count.false, le-ltb (c.args.index + 1) c.args.count (omega (arith, c.if-count-index-gt1.false)), c.if-used-eq0.true)
-
-pub returns : goal.returns
-unfolding may_hold
-returns c = simp (lt-ltb c.args.index c.args.count c.if-index-count.false, le-ltb (c.args.index + 1) c.args.count (omega (arith, c.if-count-index-gt1.false)), lt-ltb 0 c.args.used (omega (arith, c.if-used-eq0.false)))
+returns-else-used-le-BODY c = grind (arith, nat_tests)

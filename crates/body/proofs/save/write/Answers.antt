@@ -1,31 +1,17 @@
 -- `body::save::write` meets its contract: name, record and list, one after another. Assumes nothing.
-use mathlib.Core.Path.{sym}
-use native.Mathlib.Omega.{arith}
-use lib.Seq.{length-take-le}
+use Rattle.std.proofs.Common.{take, ap, ◌∙◌, arith}
+use Rattle.le_bytes.specs.Bytes.{put_items}
+use Rattle.body.specs.Save.{item_width}
+use Rattle.history.specs.declared.Items.{Items}
 use Rattle.body.proofs.Records.{room-widths}
-use Rattle.body.proofs.Saves.{save-name, save-list, save-room, save-by}
+use Rattle.body.proofs.Saves.{save-by}
 use Rattle.body.proofs.save.write.Goals as goal
 
-pub returns-then-name-ne-NAME : goal.returns-then-name-ne-NAME
-returns-then-name-ne-NAME c =
-    save-name c.args.name.now c.args.b c.args.list.now c.args.out.now c.if-name-ne-NAME.true
-
-pub returns-then-list-n : goal.returns-then-list-n
-returns-then-list-n c =
-    save-list c.args.name.now c.args.b c.args.list.now c.args.out.now c.if-name-ne-NAME.false c.if-list-n.true
-
-pub returns-then-out-size : goal.returns-then-out-size
-returns-then-out-size c =
-    save-room c.args.name.now c.args.b c.args.list.now c.args.out.now c.if-name-ne-NAME.false c.if-list-n.false (omega (arith, c.size.ensures, c.if-out-size.true))
-
 pub put_record-requires : goal.put_record-requires
-put_record-requires c =
-    omega (arith, c.copy.auto.out, c.size.ensures, c.if-out-size.false, room-widths)
+put_record-requires c = omega (arith, c.copy.auto.out, c.size.ensures, c.if-size-out.true, room-widths)
 
-pub slice_bounds-put_list-end : goal.slice_bounds-put_list-end
-slice_bounds-put_list-end c =
-    sym (length-take-le c.args.b.shared.len c.args.list.now c.if-list-n.false)
-
-pub returns : goal.returns
-returns c =
-    save-by c.args.name.now c.args.b c.args.list.now c.args.out.now c.copy.new.out c.put_record.new.out c.put_list.new.out c.if-name-ne-NAME.false c.if-list-n.false (omega (arith, c.size.ensures, c.if-out-size.false)) c.copy.ensures c.put_record.ensures c.put_list.ensures
+pub returns-then-size-out : goal.returns-then-size-out
+returns-then-size-out c =
+    save-by c.args.name.now c.args.b c.args.list.now c.args.out.now c.copy.new.out c.put_record.new.out c.put_list.new.out c.if-name-eq-NAME.true c.if-n-list.true
+    (omega (arith, c.size.ensures, c.if-size-out.true)) c.copy.ensures c.put_record.ensures
+    (c.put_list.ensures ∙ ap (λ (i : Items). put_items 86 (item_width i) (take c.args.b.shared.len c.args.list.now) c.put_record.new.out) c.items_of.ensures)

@@ -1,40 +1,37 @@
--- `lines::digits::read_hex16` meets its contract. The loop's invariant: what the digits left from `next` on add to `value` is what stands at `at`. Assumes nothing.
-use Prim.Native.Nat.{◌<◌, ◌-◌, ◌+◌, ◌*◌, ◌^◌}
-use mathlib.Core.Path.{◌≡◌, sym, ◌∙◌}
-use native.Mathlib.Omega.{arith}
-use borrow.Author.Tests.{lt-ltb, le-ltb}
+-- `lines::digits::read_hex16` meets its contract. Assumes nothing.
+use Rattle.std.proofs.Common.{◌≡◌, ◌+◌, ◌*◌, ◌-◌, ◌^◌, ◌<◌, drop, arith}
+use Rattle.std.specs.Option.{option_and_then}
+use Rattle.std.proofs.lemmas.Grind.{common_steps}
 use Rattle.lines.specs.Take.{take_hex}
-use Rattle.lines.proofs.Numbers.{hex-step, hex-end, hex-fits}
-use Rattle.lines.proofs.digits.read_hex16.Goals.{Else-d-ge16}
+use Rattle.lines.proofs.Numbers.{hex_short, hex-turn, hex-fits}
+use Rattle.lines.proofs.digits.read_hex16.Goals.{After-hex_digit, In_ok-d}
 use Rattle.lines.proofs.digits.read_hex16.Goals as goal
 
-pub returns-then-next-s : goal.returns-then-next-s
-returns-then-next-s c =
-    sym (hex-end c.loop-i.i c.loop-i.value c.loop-i.next c.args.s.now c.loop-i-test.true c.if-next-s.true) ∙ c.loop-i.invariant.2
+pub returns-in_err-digits : goal.returns-in_err-digits
+returns-in_err-digits c = grind (arith, hex_short)
 
--- where a turn goes on there is room for its digit
-fits : (c : Else-d-ge16) → let n = c.loop-i.value * 16 + c.digit_of-d.result in (n < 16 ^ (c.loop-i.i + 1)) × (n < 2 ^ 64)
-fits c =
-    hex-fits c.loop-i.i c.loop-i.value c.digit_of-d.result c.loop-i-test.true c.loop-i.invariant.1 c.if-d-ge16.false
+-- a turn reads the next digit
+turn : (c : After-hex_digit) → let l = c.loop-digit in
+    take_hex (16 - l.digit-index) l.value (drop l.digit-index c.args.s.now) ≡ option_and_then (λ d. take_hex (16 - (l.digit-index + 1)) (l.value * 16 + d) (drop (l.digit-index + 1) c.args.s.now)) c.hex_digit.result
+turn c = rw c.hex_digit.ensures (hex-turn _ _ _ _ c.in_ok-digits.ensures.cases.0 c.loop-digit-test.true (omega (arith, c.in_ok-digits.ensures.cases)))
 
-pub returns-then-d-ge16 : goal.returns-then-d-ge16
-returns-then-d-ge16 c =
-    let h = hex-step c.loop-i.i c.loop-i.value c.loop-i.next c.args.s.now c.loop-i-test.true c.if-next-s.false in
-    sym (rw (← c.digit_of-d.ensures, le-ltb _ _ c.if-d-ge16.true) at h) ∙ c.loop-i.invariant.2
+pub returns-in_err-d : goal.returns-in_err-d
+returns-in_err-d c = rw c.from_residual-in_err-d.ensures (rw (turn (goal.at.returns-in_err-d c).After-hex_digit, c.in_err-d.was) at c.loop-digit.invariant.1)
+
+-- there is room for the digit
+fits : (c : In_ok-d) → let n = c.loop-digit.value * 16 + c.in_ok-d.d in (n < 16 ^ (c.loop-digit.digit-index + 1)) × (n < 2 ^ 64)
+fits c = hex-fits _ _ _ _ (omega arith) c.loop-digit.invariant.0 c.in_ok-d.ensures
 
 pub overflow_mul-value : goal.overflow_mul-value
-overflow_mul-value c = omega (arith, fits (goal.at.overflow_mul-value c).Else-d-ge16)
+overflow_mul-value c = omega (arith, fits (goal.at.overflow_mul-value c).In_ok-d)
 
 pub overflow_add-value : goal.overflow_add-value
-overflow_add-value c = omega (arith, fits (goal.at.overflow_add-value c).Else-d-ge16)
+overflow_add-value c = omega (arith, fits (goal.at.overflow_add-value c).In_ok-d)
 
-pub loop-i-preserved : goal.loop-i-preserved
-loop-i-preserved c =
-    let h = hex-step c.loop-i.i c.loop-i.value c.loop-i.next c.args.s.now c.loop-i-test.true c.if-next-s.false in
-    (omega arith, (fits (goal.at.loop-i-preserved c).Else-d-ge16).0, sym (rw (← c.digit_of-d.ensures, lt-ltb _ _ c.if-d-ge16.false) at h) ∙ c.loop-i.invariant.2)
+pub loop-digit-preserved : goal.loop-digit-preserved
+loop-digit-preserved c =
+    ((fits (goal.at.loop-digit-preserved c).In_ok-d).0, rw (turn (goal.at.loop-digit-preserved c).After-hex_digit, c.in_ok-d.was) at c.loop-digit.invariant.1)
 
 pub returns : goal.returns
 unfolding take_hex
-returns c =
-    let e : 16 - c.loop-i.i ≡ 0 = omega arith in
-    rw e at c.loop-i.invariant.2
+returns c = grind (arith, common_steps)

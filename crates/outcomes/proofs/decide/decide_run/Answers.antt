@@ -4,7 +4,7 @@ use mathlib.Core.Path.{ap, ◌∙◌}
 use lib.Dec.{leb}
 use Rattle.breaker.specs.declared.Breaker.{Breaker}
 use Rattle.breaker.specs.Record.{settings}
-use Rattle.outcomes.proofs.Deciding.{run-good, run-failed}
+use Rattle.outcomes.proofs.Deciding.{failure-counted, run-good, run-failed}
 use Rattle.outcomes.proofs.decide.decide_run.Goals as goal
 
 pub returns-then-success : goal.returns-then-success
@@ -12,6 +12,6 @@ returns-then-success c = λ cfg st reading e p. rw c.if-success.true (run-good (
 
 pub returns : goal.returns
 returns c =
-    λ cfg st reading e p. rw (c.counted.ensures, c.if-success.false)
-    (run-failed (settings cfg) st reading cfg.limit p c.one_more-run.result c.args.b.shared.len c.run_trips.result (c.one_more-run.ensures ∙ ap (λ (x : Breaker). min (x.shared.run + 1) (2 ^ 32 - 1)) e)
-    (ap (λ (x : Breaker). x.shared.len) e) (c.run_trips.ensures ∙ ap (λ (x : Breaker). leb x.config.limit c.one_more-run.result) e))
+    λ cfg st reading e p. failure-counted (settings cfg) reading st c.args.success _ _ _ c.counted.ensures c.if-success.false
+    (run-failed (settings cfg) st reading cfg.limit p c.saturating_add-run.result c.args.b.shared.len c.run_trips.result (c.saturating_add-run.ensures ∙ ap (λ (x : Breaker). min (x.shared.run + 1) (2 ^ 32 - 1)) e)
+    (ap (λ (x : Breaker). x.shared.len) e) (c.run_trips.ensures ∙ ap (λ (x : Breaker). leb x.config.limit c.saturating_add-run.result) e))

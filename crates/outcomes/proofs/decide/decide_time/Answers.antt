@@ -12,12 +12,9 @@ use Rattle.breaker.specs.declared.Breaker.{Breaker}
 use Rattle.breaker.specs.Record.{State, settings, sound}
 use mathlib.Core.Bool.{true}
 use Rattle.steps.specs.Steps.{Holds}
-use Rattle.outcomes.proofs.Deciding.{has-length, seen, time-good, time-full, time-failed}
+use Rattle.outcomes.proofs.Deciding.{failure-counted, has-length, seen, time-good, time-full, time-failed}
 use Rattle.outcomes.proofs.decide.decide_time.Goals.{After-count_expired-gone}
 use Rattle.outcomes.proofs.decide.decide_time.Goals as goal
-
-pub overflow_sub-stay : goal.overflow_sub-stay
-overflow_sub-stay c = omega (arith, c.count_expired-gone.ensures.1)
 
 cut : (c : After-count_expired-gone) (cfg : Config) (st : State) → Holds cfg st c.args.b c.args.list.now → c.cutoff-cutoff.result ≡ c.args.now_ms - cfg.period_ms
 cut c cfg st h =
@@ -47,8 +44,8 @@ returns c =
     let l = length-drop c.count_expired-gone.result st.list in
     let q : c.count_recent-recent.result ≡ recent (c.args.now_ms - cfg.period_ms) (drop c.count_expired-gone.result st.list) =
     c.count_recent-recent.ensures ∙ ap₂ (λ (x : ℕ) (xs : List ℕ). recent x (drop c.count_expired-gone.result xs)) (cut (goal.at.returns c).After-count_expired-gone cfg st h) (seen c.args.b c.args.list.now cfg st h ok) in
-    rw (c.counted.ensures, c.if-success.false)
-    (time-failed (settings cfg) st c.args.now_ms cfg.limit cfg.period_ms p c.count_expired-gone.result (goes (goal.at.returns c).After-count_expired-gone ok cfg st h) (omega (arith, l, n, c.if-stay-ge-MOST_ITEMS.false)) c.one_more.result _ c.one_more-2.result c.times_trip.result
-    (c.one_more.ensures ∙ ap (λ (x : Breaker). min (x.shared.run + 1) (2 ^ 32 - 1)) h.0) (omega (arith, l, n))
-    (omega (arith, c.one_more-2.ensures, q, l, n, c.if-stay-ge-MOST_ITEMS.false, count-le (λ t. leb (c.args.now_ms - cfg.period_ms) t) (drop c.count_expired-gone.result st.list)))
-    (c.times_trip.ensures ∙ ap (λ (x : Breaker). leb x.config.limit c.one_more-2.result) h.0))
+    failure-counted (settings cfg) c.args.now_ms st c.args.success _ _ _ c.counted.ensures c.if-success.false
+    (time-failed (settings cfg) st c.args.now_ms cfg.limit cfg.period_ms p c.count_expired-gone.result (goes (goal.at.returns c).After-count_expired-gone ok cfg st h) (omega (arith, l, n, c.if-stay-ge-MOST_ITEMS.false)) c.saturating_add.result _ c.saturating_add-2.result c.times_trip.result
+    (c.saturating_add.ensures ∙ ap (λ (x : Breaker). min (x.shared.run + 1) (2 ^ 32 - 1)) h.0) (omega (arith, l, n))
+    (omega (arith, c.saturating_add-2.ensures, q, l, n, c.if-stay-ge-MOST_ITEMS.false, count-le (λ t. leb (c.args.now_ms - cfg.period_ms) t) (drop c.count_expired-gone.result st.list)))
+    (c.times_trip.ensures ∙ ap (λ (x : Breaker). leb x.config.limit c.saturating_add-2.result) h.0))

@@ -1,6 +1,7 @@
--- `plain::calls::admit_as` meets its contract: the call by value, packed. Assumes nothing.
-use Rattle.plain.proofs.Cross.{cross}
+-- `plain::calls::admit_as` meets its contract: the call by value, told. Assumes nothing.
+use mathlib.Core.Path.{ap, ◌∙◌}
+use Rattle.crossing.specs.Crossing.{crossed}
 use Rattle.plain.proofs.calls.admit_as.Goals as goal
 
 pub returns : goal.returns
-returns c = cross _ _ _ _ c.pack_admitted.ensures _ c.admit_as.ensures
+returns c = c.told.ensures _ ∙ ap crossed c.admit_as.ensures

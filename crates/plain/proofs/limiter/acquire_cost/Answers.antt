@@ -1,13 +1,9 @@
--- `plain::limiter::acquire_cost` meets its contract: 11 for an unknown reply, else the call by value, packed. Assumes nothing.
-use mathlib.Core.Path.{sym, ◌∙◌}
-use borrow.Author.Tests.{not-true, not-false}
-use Rattle.plain.proofs.Cross.{cross, cross-told, known-reply, unknown-reply}
+-- `plain::limiter::acquire_cost` meets its contract: of a known reply the call by value, told. Assumes nothing.
+use mathlib.Core.Path.{ap, ◌∙◌}
+use Rattle.breaker.specs.Calls as Calls
+use Rattle.crossing.specs.Crossing.{crossed}
+use Rattle.plain.proofs.Known.{known}
 use Rattle.plain.proofs.limiter.acquire_cost.Goals as goal
 
-pub returns-then-not-is_reply : goal.returns-then-not-is_reply
-returns-then-not-is_reply c = cross-told _ _ _ _ c.tell_unknown.ensures _ (unknown-reply _ _ _ _ (sym c.is_reply.ensures ∙ not-true c.is_reply.result c.if-not-is_reply.true-raw))
-
 pub returns : goal.returns
-returns c =
-    let known = sym c.is_reply.ensures ∙ not-false c.is_reply.result c.if-not-is_reply.false-raw in
-    cross _ _ _ _ c.pack_acquisition.ensures _ (rw c.decision_by-inner.ensures at c.acquire_cost.ensures ∙ known-reply _ _ _ _ known)
+returns c = c.told.ensures _ ∙ ap crossed (c.acquire_cost.ensures ∙ known _ _ _ _ (λ d. Calls.acquire_cost d c.args.now_ms) _ _ c.decision_by.ensures c.in-Some.is)

@@ -1,6 +1,7 @@
--- `plain::limiter::refund` meets its contract: the call by value, packed. Assumes nothing.
-use Rattle.plain.proofs.Cross.{cross}
+-- `plain::limiter::refund` meets its contract: the call by value, told. Assumes nothing.
+use mathlib.Core.Path.{ap, ◌∙◌}
+use Rattle.crossing.specs.Crossing.{crossed}
 use Rattle.plain.proofs.limiter.refund.Goals as goal
 
 pub returns : goal.returns
-returns c = cross _ _ _ _ c.pack_noticed.ensures _ c.refund.ensures
+returns c = c.told.ensures _ ∙ ap crossed c.refund.ensures

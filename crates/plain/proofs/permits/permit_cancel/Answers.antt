@@ -1,7 +1,7 @@
--- `plain::permits::permit_cancel` meets its contract: the call by value, packed. Assumes nothing.
-use Rattle.plain.proofs.Cross.{cross}
+-- `plain::permits::permit_cancel` meets its contract: the call by value, told. Assumes nothing.
+use mathlib.Core.Path.{ap, ◌∙◌}
+use Rattle.crossing.specs.Crossing.{crossed}
 use Rattle.plain.proofs.permits.permit_cancel.Goals as goal
 
 pub returns : goal.returns
-returns c =
-    cross _ _ _ _ c.pack_noticed.ensures _ (rw c.ticket_by.ensures at c.permit_cancel.ensures)
+returns c = c.told.ensures _ ∙ ap crossed (rw c.ticket_by.ensures at c.permit_cancel.ensures)

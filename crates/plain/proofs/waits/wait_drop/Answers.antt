@@ -1,7 +1,8 @@
--- `plain::waits::wait_drop` meets its contract: the call by value, packed. Assumes nothing.
-use Rattle.plain.proofs.Cross.{cross-turn}
+-- `plain::waits::wait_drop` meets its contract: the call by value, told. Assumes nothing.
+use mathlib.Core.Path.{ap, ◌∙◌}
+use Rattle.waiting.specs.Calls.{PendingAfter}
+use Rattle.crossing.specs.Waits.{crossed_turn}
 use Rattle.plain.proofs.waits.wait_drop.Goals as goal
 
 pub returns : goal.returns
-returns c =
-    cross-turn _ _ _ _ _ _ c.pack_leaving.ensures _ (rw c.pending_by-handed.ensures at c.drop_pending.ensures)
+returns c = c.told_wait.ensures _ ∙ ap (λ (x : PendingAfter). crossed_turn x c.args.pending) (rw c.pending_by-handed.ensures at c.drop_pending.ensures)

@@ -9,5 +9,5 @@ use Rattle.steps.proofs.update.closed.Goals as goal
 pub returns : goal.returns
 returns c =
     λ cfg st e. c.transition.ensures cfg (with_history 0 [] (with_counts no_counts st))
-    (c.with_history.ensures cfg (with_counts no_counts st) [] (c.with_counts-idle.ensures cfg st e ∙ ap (λ (x : Counts). stored cfg (with_counts x st)) c.no_counts.ensures) refl)
+    (c.with_history.ensures [] refl cfg (with_counts no_counts st) (c.with_counts-idle.ensures cfg st e ∙ ap (λ (x : Counts). stored cfg (with_counts x st)) c.no_counts.ensures))
     ∙ ap (λ (x : Breaker). stored cfg (moved 0 x.shared.open_until (with_history 0 [] (with_counts no_counts st)))) e

@@ -1,6 +1,5 @@
 -- `waiting::ends::given_up` meets its contract: the abort, beside whatever is told. Assumes nothing.
-use mathlib.Core.Bool.{false}
-use mathlib.Core.Path.{refl}
+use Rattle.std.proofs.Common.{refl, false}
 use Rattle.history.specs.Items.{padded}
 use Rattle.steps.proofs.Aborting.{given_back}
 use Rattle.waiting.proofs.ends.given_up.Goals as goal

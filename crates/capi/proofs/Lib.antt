@@ -1,2 +1,0 @@
--- The types that cross, as `thin` takes them.
-pub mod Types

@@ -1,9 +1,0 @@
--- `history::zero` meets its contract. The loop's invariant: the first i elements are 0, and the others are as they were. Assumes nothing.
-use Rattle.std.proofs.Common.{◌≡◌, ◌-◌, ◌≤◌, ◌++◌, length, drop, replicate}
-use Rattle.history.proofs.zero.Given as goal
-
-abbrev pub invariant-loop-i : goal.invariant-loop-i
-invariant-loop-i l = (l.i ≤ length l.initial.s) × (l.s ≡ replicate l.i 0 ++ drop l.i l.initial.s) × (length l.s ≡ length l.initial.s)
-
-abbrev pub decreases-loop-i : goal.decreases-loop-i
-decreases-loop-i l = length l.initial.s - l.i

@@ -1,2 +1,0 @@
--- What a call by value came to, packed.
-pub mod Steps

@@ -1,9 +1,0 @@
--- `vectors::replay_all` is safe and ends. The loop's invariant: no more lines than bytes are behind it. Assumes nothing.
-use Rattle.std.proofs.Common.{◌-◌, ◌≤◌, length}
-use Rattle.vectors.proofs.replay_all.Given as goal
-
-abbrev pub invariant-loop-at : goal.invariant-loop-at
-invariant-loop-at l = (l.line ≤ l.at) × (l.at ≤ length l.s)
-
-abbrev pub decreases-loop-at : goal.decreases-loop-at
-decreases-loop-at l = length l.s - l.at
