@@ -1,11 +1,10 @@
 -- "Edges to prove": P1 to P12 as one list, over the definitions that the promises cite. Definitions only.
-use Rattle.std.specs.Prelude.{ℕ, ◌-◌, ◌^◌, ◌≤◌, ◌≡◌, true, false, List, [], ◌∷◌, pos}
+use Rattle.std.specs.Prelude.{ℕ, ◌-◌, ◌^◌, ◌≤◌, ◌≡◌, true, false, List, [], ◌∷◌, pos, Ok}
 use Rattle.std.specs.Float.{nan, fin, binary64}
 use Rattle.std.specs.Float.Ieee.{to_bits}
 use Rattle.error.specs.Told.{Told, tell}
 use Rattle.trip.specs.declared.Config.{Config}
 use Rattle.trip.specs.declared.Trip.TheVariants as TripIs
-use Rattle.trip.specs.declared.Built.TheVariants.{Made}
 use Rattle.trip.specs.Settings.{clamped_ratio, normalised_trip, one_ratio, built_of, default_builder, with_half_open}
 use Rattle.trip.specs.Policy.{Policy, Consecutive, Windowed}
 use Rattle.breaker.specs.declared.Ticket.{Ticket}
@@ -35,7 +34,7 @@ P3 = (clamped_ratio (fin true 0 (pos 0)) ≡ fin true 0 (pos 0)) × (to_bits bin
 abbrev pub P4 : Type 0
 P4 =
     built_of (with_half_open 3 9 default_builder)
-    ≡ Made (record { kind = 1; limit = 5; ratio_bits = 0; min_calls = 0; period_ms = 0; cooldown_ms = 30000; trials = 3; required = 3 })
+    ≡ Ok (record { kind = 1; limit = 5; ratio_bits = 0; min_calls = 0; period_ms = 0; cooldown_ms = 30000; trials = 3; required = 3 })
 
 -- ---- the breaker
 
