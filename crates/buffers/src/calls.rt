@@ -51,7 +51,7 @@ impl Asked {
 
 fn reconfigure(held: &mut Held, places: usize, setting: Setting) -> Result<Told> {
     let list = held.list.get_mut(..places).context("no such places")?;
-    let Some(builder) = crossing::builder_by(setting) else {
+    let Some(builder) = crossing::known_builder(setting) else {
         return Ok(crossing::tell_unknown_policy(list));
     };
     let answer = circuit::reconfigure(held.breaker, list, builder);

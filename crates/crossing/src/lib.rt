@@ -9,8 +9,11 @@ mod ticket;
 mod waits;
 
 use breaker::Breaker;
-pub use reply::{decision_by, reservation_by, tell_unknown};
-pub use settings::{builder_by, tell_unknown_policy};
+pub use reply::{
+    decision_by, is_reply, is_reservable, known_decision, known_reservation, reservation_by,
+    tell_unknown,
+};
+pub use settings::{builder_by, is_policy, known_builder, tell_unknown_policy};
 pub use tell::{Tell, tell_judged, tell_wait};
 pub use ticket::{after_turn, pending_by, plain_pending, ticket_by};
 use wait::Wait;

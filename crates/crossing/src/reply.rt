@@ -6,36 +6,61 @@ ghost use Rattle.breaker.specs.Calls.{guarded};
 ghost use Rattle.crossing.specs.Crossing.{packed, is_reply, decision_by, reservable, reservation_by};
 
 use crate::Told;
-use crate::codes::{
-    REPLY_ACQUIRED, REPLY_IMPOSSIBLE, REPLY_RETRY, RESERVED_NOTHING, RESERVED_WAIT,
-};
+use crate::codes::{REPLY_ACQUIRED, REPLY_IMPOSSIBLE, REPLY_RETRY, RESERVED_WAIT};
 use crate::tell::Tell;
 use breaker::{Breaker, Decision, Delay, delayed, test};
 use error::Refusal;
 
-// What an inner limiter replied: a kind of 1 to 3, and the milliseconds of a retry; nothing where the kind is another.
-// Ruled out: a retry without its milliseconds; a kind of 0 or 4 taken.
-pub fn decision_by(kind: u8, ms: u64) -> Option<Decision>
-    ensures { result ≡ (if is_reply kind then Some (decision_by kind ms) else None) }
+// Whether an inner limiter's reply has this kind.
+// Ruled out: a kind of 0 taken; a kind of 4 taken.
+pub fn is_reply(kind: u8) -> bool
+    ensures { result ≡ is_reply kind }
+{
+    (REPLY_ACQUIRED..=REPLY_IMPOSSIBLE).contains(&kind)
+}
+
+// What an inner limiter replied: a kind of 1 to 3, and the milliseconds of a retry.
+// Ruled out: a retry without its milliseconds; kinds 2 and 3 swapped.
+pub fn decision_by(kind: u8, ms: u64) -> Decision
+    ensures { result ≡ decision_by kind ms }
 {
     match kind {
-        REPLY_ACQUIRED => Some(Decision::Acquired),
-        REPLY_RETRY => Some(Decision::Retry(delayed(ms))),
-        REPLY_IMPOSSIBLE => Some(Decision::Impossible),
-        _ => None,
+        REPLY_ACQUIRED => Decision::Acquired,
+        REPLY_RETRY => Decision::Retry(delayed(ms)),
+        _ => Decision::Impossible,
     }
 }
 
-// What an inner limiter replied to a reservation: 1 a wait of so many milliseconds, 0 none; nothing where the kind is another.
-// Ruled out: a wait without its milliseconds; a kind of 2 taken.
-pub fn reservation_by(kind: u8, ms: u64) -> Option<Option<Delay>>
+// The same where the kind is one, else nothing.
+// Ruled out: nothing for an impossible; a kind of 4 taken for one.
+pub fn known_decision(kind: u8, ms: u64) -> Option<Decision>
+    ensures { result ≡ (if is_reply kind then Some (decision_by kind ms) else None) }
+{
+    is_reply(kind).then(|| decision_by(kind, ms))
+}
+
+// Whether a reservation has this kind.
+// Ruled out: a kind of 2 taken; a kind of 0 refused.
+pub fn is_reservable(kind: u8) -> bool
+    ensures { result ≡ reservable kind }
+{
+    kind <= RESERVED_WAIT
+}
+
+// What an inner limiter replied to a reservation: 1 a wait of so many milliseconds, 0 none.
+// Ruled out: a wait without its milliseconds; 0 taken for a wait.
+pub fn reservation_by(kind: u8, ms: u64) -> Option<Delay>
+    ensures { result ≡ reservation_by kind ms }
+{
+    (kind == RESERVED_WAIT).then(|| delayed(ms))
+}
+
+// The same where the kind is one, else nothing.
+// Ruled out: nothing for a kind of 0; a kind of 2 taken for none.
+pub fn known_reservation(kind: u8, ms: u64) -> Option<Option<Delay>>
     ensures { result ≡ (if reservable kind then Some (reservation_by kind ms) else None) }
 {
-    match kind {
-        RESERVED_WAIT => Some(Some(delayed(ms))),
-        RESERVED_NOTHING => Some(None),
-        _ => None,
-    }
+    is_reservable(kind).then(|| reservation_by(kind, ms))
 }
 
 // What a call with an unknown reply is told: 3, 4, then 11.

@@ -10,42 +10,56 @@ use trip::{
     CircuitBreakerBuilder, Duration, POLICY_CONSECUTIVE, POLICY_RATIO, POLICY_WINDOWED, Trip,
 };
 
-fn trip_by(setting: Setting) -> Option<Trip>
-    ensures { result ≡ (if is_policy setting.kind then Some (trip_by setting) else None) }
+// Whether a policy has this kind.
+// Ruled out: a kind of 0 taken; a kind of 4 taken.
+pub fn is_policy(kind: u8) -> bool
+    ensures { result ≡ is_policy kind }
+{
+    (POLICY_CONSECUTIVE..=POLICY_WINDOWED).contains(&kind)
+}
+
+fn trip_by(setting: Setting) -> Trip
+    ensures { result ≡ trip_by setting }
 {
     match setting.kind {
-        POLICY_CONSECUTIVE => Some(Trip::Consecutive(setting.limit)),
-        POLICY_RATIO => Some(Trip::Ratio {
+        POLICY_CONSECUTIVE => Trip::Consecutive(setting.limit),
+        POLICY_RATIO => Trip::Ratio {
             window: setting.limit,
             ratio: setting.ratio,
             min_calls: setting.min_calls,
-        }),
-        POLICY_WINDOWED => Some(Trip::Windowed {
+        },
+        _ => Trip::Windowed {
             failures: setting.limit,
             period: Duration {
                 secs: setting.period_secs,
                 nanos: setting.period_nanos,
             },
-        }),
-        _ => None,
+        },
     }
 }
 
-// The builder that a setting stands for; nothing where its policy's kind is none.
-// Ruled out: trials and required swapped; a kind of 0 or 4 taken.
-pub fn builder_by(setting: Setting) -> Option<CircuitBreakerBuilder>
-    ensures { result ≡ (if is_policy setting.kind then Some (builder_by setting) else None) }
+// The builder that a setting stands for.
+// Ruled out: trials and required swapped; the period's nanoseconds as the cooldown's.
+pub fn builder_by(setting: Setting) -> CircuitBreakerBuilder
+    ensures { result ≡ builder_by setting }
 {
-    let trip = trip_by(setting)?;
-    Some(CircuitBreakerBuilder {
-        trip,
+    CircuitBreakerBuilder {
+        trip: trip_by(setting),
         cooldown: Duration {
             secs: setting.cooldown_secs,
             nanos: setting.cooldown_nanos,
         },
         half_open_trials: setting.trials,
         half_open_required: setting.required,
-    })
+    }
+}
+
+// The same where its policy's kind is one, else nothing.
+// Ruled out: nothing for a windowed policy; a kind of 4 taken for one.
+pub fn known_builder(setting: Setting) -> Option<CircuitBreakerBuilder>
+    ensures { result ≡ (if is_policy setting.kind then Some (builder_by setting) else None) }
+{
+    is_policy(setting.kind).then(|| builder_by(setting))
 }
 
 // What a build with an unknown policy kind is told: 3, then 4.

@@ -12,8 +12,8 @@ ghost use Rattle.crossing.specs.Crossing.{packed, crossing, crossed, crossings, 
 use crate::pack::{told, told_done};
 use breaker::{Answered, Breaker};
 use crossing::{
-    PlainTicket, Setting, Tell, Told, builder_by, decision_by, tell_unknown, tell_unknown_policy,
-    ticket_by,
+    PlainTicket, Setting, Tell, Told, known_builder, known_decision, tell_unknown,
+    tell_unknown_policy, ticket_by,
 };
 
 // Puts a fresh breaker into record and storage. An unknown policy kind is told 4, after 3 and before 1 and 2.
@@ -22,7 +22,7 @@ use crossing::{
 pub fn build(breaker: Breaker, list: &mut [u64], setting: Setting) -> Answered<Told>
     ensures { crossing result.answer result.breaker list.new ≡ crossed (built_by setting breaker list.old) }
 {
-    let Some(builder) = builder_by(setting) else {
+    let Some(builder) = known_builder(setting) else {
         return Answered {
             answer: tell_unknown_policy(list),
             breaker,
@@ -37,7 +37,7 @@ pub fn build(breaker: Breaker, list: &mut [u64], setting: Setting) -> Answered<T
 pub fn reconfigure(breaker: Breaker, list: &mut [u64], setting: Setting) -> Answered<Told>
     ensures { crossing result.answer result.breaker list.new ≡ crossed (reconfigured_by setting breaker list.old) }
 {
-    let Some(builder) = builder_by(setting) else {
+    let Some(builder) = known_builder(setting) else {
         return Answered {
             answer: tell_unknown_policy(list),
             breaker,
@@ -72,7 +72,7 @@ pub fn try_admit(
     ensures { crossing result.answer result.breaker list.new
         ≡ crossed (on_reply (is_reply inner_kind) (Calls.try_admit (decision_by inner_kind inner_ms) capacity now_ms) breaker list.old) }
 {
-    let Some(inner) = decision_by(inner_kind, inner_ms) else {
+    let Some(inner) = known_decision(inner_kind, inner_ms) else {
         return Answered {
             answer: tell_unknown(breaker, list),
             breaker,

@@ -6,7 +6,7 @@ ghost use Rattle.crossing.specs.Crossing.{packed, crossing, crossed, is_reply, d
 
 use crate::pack::told;
 use breaker::{Answered, Breaker};
-use crossing::{Tell, Told, decision_by, reservation_by, tell_unknown};
+use crossing::{Tell, Told, known_decision, known_reservation, tell_unknown};
 
 // Admits through the trait side, with the inner limiter's reply. An unknown reply is told 11, after 3 and 4.
 // Ruled out: kind and delay swapped; a shed told 6.
@@ -21,7 +21,7 @@ pub fn acquire_cost(
     ensures { crossing result.answer result.breaker list.new
         ≡ crossed (on_reply (is_reply inner_kind) (Calls.acquire_cost (decision_by inner_kind inner_ms) now_ms) breaker list.old) }
 {
-    let Some(inner) = decision_by(inner_kind, inner_ms) else {
+    let Some(inner) = known_decision(inner_kind, inner_ms) else {
         return Answered {
             answer: tell_unknown(breaker, list),
             breaker,
@@ -46,7 +46,7 @@ pub fn reserve(
     ensures { crossing result.answer result.breaker list.new
         ≡ crossed (on_reply (reservable inner_kind) (Calls.reserve (reservation_by inner_kind inner_ms) now_ms) breaker list.old) }
 {
-    let Some(inner) = reservation_by(inner_kind, inner_ms) else {
+    let Some(inner) = known_reservation(inner_kind, inner_ms) else {
         return Answered {
             answer: tell_unknown(breaker, list),
             breaker,
@@ -69,7 +69,7 @@ pub fn refund(breaker: Breaker, list: &mut [u64], cost: u32) -> Answered<Told>
 pub fn peek(breaker: Breaker, list: &[u64], now_ms: u64, inner_kind: u8, inner_ms: u64) -> Told
     ensures { result ≡ packed (asked_reply (is_reply inner_kind) (Calls.peek (decision_by inner_kind inner_ms) now_ms) breaker list.now) }
 {
-    let Some(inner) = decision_by(inner_kind, inner_ms) else {
+    let Some(inner) = known_decision(inner_kind, inner_ms) else {
         return tell_unknown(breaker, list);
     };
     admission::peek(breaker, list, now_ms, inner).tell()
@@ -89,7 +89,7 @@ pub fn available(
     ensures { result
         ≡ packed (asked_reply (is_reply inner_kind) (Calls.available (decision_by inner_kind inner_ms) count now_ms) breaker list.now) }
 {
-    let Some(inner) = decision_by(inner_kind, inner_ms) else {
+    let Some(inner) = known_decision(inner_kind, inner_ms) else {
         return tell_unknown(breaker, list);
     };
     admission::available(breaker, list, now_ms, inner, count).tell()

@@ -72,11 +72,11 @@ fn ticket(generation: u64, probe: u64) -> Result<Ticket> {
 }
 
 fn decision(reply: u64, ms: u64) -> Result<Decision> {
-    crossing::decision_by(reply.try_into()?, ms).context("no reply")
+    crossing::known_decision(reply.try_into()?, ms).context("no reply")
 }
 
 fn reservation(reply: u64, ms: u64) -> Result<Option<Delay>> {
-    crossing::reservation_by(reply.try_into()?, ms).context("no reservation")
+    crossing::known_reservation(reply.try_into()?, ms).context("no reservation")
 }
 
 impl TryFrom<u64> for Outcome {
@@ -175,7 +175,7 @@ impl<'a> Numbers<'a> {
             trials: trials.try_into()?,
             required: required.try_into()?,
         };
-        crossing::builder_by(setting).context("no policy")
+        crossing::known_builder(setting).context("no policy")
     }
 
     fn config(mut self) -> Result<Config> {

@@ -6,4 +6,4 @@ use Rattle.plain.proofs.Known.{known}
 use Rattle.plain.proofs.limiter.acquire_cost.Goals as goal
 
 pub returns : goal.returns
-returns c = c.told.ensures _ ∙ ap crossed (c.acquire_cost.ensures ∙ known _ _ _ _ (λ d. Calls.acquire_cost d c.args.now_ms) _ _ c.decision_by.ensures c.in-Some.is)
+returns c = c.told.ensures _ ∙ ap crossed (c.acquire_cost.ensures ∙ known _ _ _ _ (λ d. Calls.acquire_cost d c.args.now_ms) _ _ c.known_decision.ensures c.in-Some.is)

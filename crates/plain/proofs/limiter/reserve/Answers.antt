@@ -6,4 +6,4 @@ use Rattle.plain.proofs.Known.{known}
 use Rattle.plain.proofs.limiter.reserve.Goals as goal
 
 pub returns : goal.returns
-returns c = c.told.ensures _ ∙ ap crossed (c.reserve.ensures ∙ known _ _ _ _ (λ w. Calls.reserve w c.args.now_ms) _ _ c.reservation_by.ensures c.in-Some.is)
+returns c = c.told.ensures _ ∙ ap crossed (c.reserve.ensures ∙ known _ _ _ _ (λ w. Calls.reserve w c.args.now_ms) _ _ c.known_reservation.ensures c.in-Some.is)
