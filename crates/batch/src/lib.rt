@@ -12,12 +12,13 @@ ghost use Rattle.breaker.specs.Orders.{FinishingOrders, in_turn};
 ghost use Rattle.breaker.specs.Batch.{batch, slices, call_by, calls, numbers, finished_all};
 ghost use Rattle.steps.specs.Steps.{Holds};
 
-use breaker::{Breaker, Ticket, test};
+use breaker::{Breaker, CLOSED, Ticket, test};
 use error::Refusal;
-use outcomes::settle_locked;
-use steps::abort_locked;
+use outcomes::{Recorded, settle_closed, settle_unclosed};
+use steps::{abort_locked, opened, with_history};
 
-// One call: a settle with success or failure by the mark, or an abort through the trait side or not.
+// One call: a settle with success or failure by the mark, or an abort through the trait side or not. A settle as `settle_locked` has it, but in
+// parts: as one call it would move a record for each of a batch.
 fn finish(
     b: Breaker,
     list: &mut [u64],
@@ -29,10 +30,19 @@ fn finish(
     ensures { sound b list.old ≡ true → (c : Config) (st : State) → Holds c st b list.old
         → done_by_value result b list.new ≡ kept c (Rules.finish (settings c) now_ms (call_by ticket settles mark) st) }
 {
-    if settles {
-        return settle_locked(b, list, now_ms, ticket, mark);
+    if !settles {
+        return Ok(abort_locked(b, ticket, mark));
     }
-    Ok(abort_locked(b, ticket, mark))
+    if b.shared.state != CLOSED {
+        return Ok(settle_unclosed(b, list, now_ms, ticket, mark));
+    }
+    if ticket.generation != b.shared.generation {
+        return Ok(b);
+    }
+    Ok(match settle_closed(b, list, now_ms, mark)? {
+        Recorded::Counted(change) => with_history(b, change.run, change.len),
+        Recorded::Tripped(change) => opened(with_history(b, change.run, change.len), now_ms),
+    })
 }
 
 // The calls in turn: each gets what the one before it left. The slices stay apart, since C lends them so.
