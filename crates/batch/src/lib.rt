@@ -3,22 +3,21 @@
 
 ghost use Rattle.std.specs.Prelude.{◌≡◌, true, length};
 ghost use Rattle.error.specs.Told.{nothing};
-ghost use Rattle.trip.specs.declared.Config.{Config};
-ghost use Rattle.breaker.specs.Record.{HalfOpen, State, settings, sound};
+ghost use Rattle.breaker.specs.Record.{HalfOpen, settings, sound};
 ghost use Rattle.breaker.specs.Rules as Rules;
 ghost use Rattle.breaker.specs.Rules.{done};
 ghost use Rattle.breaker.specs.Calls.{after, done_by_value, kept};
 ghost use Rattle.breaker.specs.Orders.{FinishingOrders, in_turn};
 ghost use Rattle.breaker.specs.Batch.{batch, slices, call_by, calls, numbers, finished_all};
-ghost use Rattle.steps.specs.Steps.{Holds};
+ghost use Rattle.steps.specs.Steps.{OnHeld};
 
 use breaker::{Breaker, CLOSED, Ticket, test};
 use error::Refusal;
 use outcomes::{Recorded, settle_closed, settle_unclosed};
 use steps::{abort_locked, opened, with_history};
 
-// One call: a settle with success or failure by the mark, or an abort through the trait side or not. A settle as `settle_locked` has it, but in
-// parts: as one call it would move a record for each of a batch.
+// One call: a settle with success or failure by the mark, or an abort through the trait side or not: two flags, as each was lent by C. A settle is
+// as `settle_locked` has it, but in parts, with what is decided put in force here: as one call it would move a record for each of a batch.
 fn finish(
     b: Breaker,
     list: &mut [u64],
@@ -27,8 +26,8 @@ fn finish(
     settles: bool,
     mark: bool,
 ) -> Result<Breaker, Refusal>
-    ensures { sound b list.old ≡ true → (c : Config) (st : State) → Holds c st b list.old
-        → done_by_value result b list.new ≡ kept c (Rules.finish (settings c) now_ms (call_by ticket settles mark) st) }
+    ensures { OnHeld b list.old (λ c st. done_by_value result b list.new
+        ≡ kept c (Rules.finish (settings c) now_ms (call_by ticket settles mark) st)) }
 {
     if !settles {
         return Ok(abort_locked(b, ticket, mark));
@@ -45,7 +44,9 @@ fn finish(
     })
 }
 
-// The calls in turn: each gets what the one before it left. The slices stay apart, since C lends them so.
+// The calls in turn: each gets what the one before it left. The slices stay apart, since C lends them so. They are read by index: of what is
+// written through the `iter_mut` of a zip nothing is known after the loop, so the answers could not be proved. (A struct of a sound breaker would have to
+// lend the list, so it is asked of the caller.)
 fn finish_each(
     start: Breaker,
     list: &mut [u64],
@@ -80,9 +81,10 @@ fn finish_each(
     b
 }
 
-// Runs a sequence of finishing calls at one reading, given as slices of equal length; each call's number goes to `answers`.
+// Runs a sequence of finishing calls at one reading, given as slices of equal length; each call's number goes to `answers`, a slice of numbers
+// since C lends it.
 // In `probes`, `settles` and `marks` 0 is false, any other number true.
-// The first clause binds this code; the second says of the same rules that demand 3 holds from a sound HalfOpen breaker.
+// The first clause binds this code; the second says of the same rules what finishing orders do from a sound HalfOpen breaker.
 // Ruled out: one that acts on every other call; one that goes on from a stale record.
 pub fn finish_all(
     breaker: Breaker,

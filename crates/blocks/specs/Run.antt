@@ -1,7 +1,7 @@
 -- W-201: "A save is a run of 512-byte blocks". A body's run, and what is found of one, by writing alone. Definitions only.
 use Rattle.std.specs.Prelude.{ℕ, zero, suc, ◌+◌, ◌*◌, ◌/◌, ◌<◌, ◌≤◌, ◌≡◌, Bool, true, ◌&&◌, List, [], ◌++◌, Option, Some, None, leb, length, take, drop, if◌then◌else◌}
 use Rattle.le_bytes.specs.Bytes.{Bytes, put_at, written}
-use Rattle.blocks.specs.Block.{block, may_hold}
+use Rattle.blocks.specs.Block.{block, may_hold, summed}
 use Rattle.blocks.specs.declared.Run.{Run}
 
 -- ---- how it is written
@@ -36,6 +36,10 @@ put_run at version body s = if leb (length body) 63488 then put_at at (run_of ve
 unfoldable pub every : (List ℕ → Bool) → ℕ → List ℕ → Bool
 every p zero bs = true
 every p (suc k) bs = p (take 512 bs) && every p k (drop 512 bs)
+
+-- the sum of every block is right
+abbrev pub Summed : List ℕ → Type 0
+Summed bs = every summed (length bs / 512) bs ≡ true
 
 -- the body bytes of k blocks, joined
 unfoldable pub joined : ℕ → List ℕ → List ℕ

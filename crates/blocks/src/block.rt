@@ -3,9 +3,9 @@ ghost use Rattle.std.specs.Prelude.{◌≡◌, ◌+◌, ◌≤◌, length, take,
 ghost use Rattle.le_bytes.specs.Bytes.{number};
 ghost use Rattle.blocks.specs.Block.{block, judged_block, may_hold, proper, summed, sum_from, used_body, used_in, versioned};
 
-use crate::{BLOCK, BODY, BODY_AT, SUM_AT, SUM_OVER};
+use crate::{BLOCK, BODY, BODY_AT, SUM_AT, SUM_OVER, VERSION};
 use error::Refusal;
-use le_bytes::{copy, number_at, put_items, put_number, zero};
+use le_bytes::{copy, number_at, put_items, put_number};
 
 // The sum of byte × (position + 1).
 fn weighed(s: &[u8]) -> u32
@@ -27,7 +27,8 @@ pub(crate) fn header(b: &[u8; BLOCK], at: usize) -> u16
     u16::from_le_bytes([b[at], b[at + 1]])
 }
 
-// A block with a part of a body. It is written in its place, since one that is returned is copied twice.
+// A block with a part of a body. It is written in its place, since one that is returned is copied twice; into a slice, since no proof closes of
+// what the run's bytes end as where an array is lent out of them (`as_mut_array`).
 pub(crate) fn write_block(out: &mut [u8], version: u16, index: u16, count: u16, part: &[u8])
     requires { (length out.old ≡ 512) × (length part.now ≤ 496) }
     ensures { out.new ≡ block version index count part.now }
@@ -41,12 +42,13 @@ pub(crate) fn write_block(out: &mut [u8], version: u16, index: u16, count: u16, 
     ];
     put_items(out, 0, 2, &header);
     copy(out, BODY_AT, part);
-    zero(&mut out[BODY_AT + used..SUM_AT]);
+    out[BODY_AT + used..SUM_AT].fill(0);
     let sum = weighed(&out[..SUM_OVER]);
     put_number(out, SUM_AT, 4, u64::from(sum));
 }
 
 // Whether the block may hold so many bytes: none is empty, and none but the last is part full.
+#[tactic(auto, unfolding(crate::specs::Block::may_hold))]
 fn may_hold(index: u16, count: u16, used: usize) -> bool
     ensures { result ≡ may_hold index count used }
 {
@@ -63,7 +65,7 @@ pub(crate) fn sum_right(b: &[u8; BLOCK]) -> bool
 pub(crate) fn version_right(b: &[u8; BLOCK]) -> bool
     ensures { result ≡ versioned b.now }
 {
-    header(b, 0) == 1
+    header(b, 0) == VERSION
 }
 
 // Whether header and zeros are those of a block.
@@ -101,7 +103,7 @@ pub fn judge(b: &[u8]) -> Result<(), Refusal>
     Ok(())
 }
 
-// The used body of a block, as a part of it; empty where the check does not pass.
+// The used body of a block, as a part of it; empty where the check does not pass: it cannot fail, and `checked` tells the refusal.
 // Ruled out: one byte more than is used; the body of a block whose sum is wrong.
 pub fn check(b: &[u8]) -> &[u8]
     ensures { result.now ≡ used_body b.now }

@@ -14,17 +14,22 @@ pub const BLOCK: usize = 512;
 
 pub const BODY: usize = 496;
 
-// Where the body starts, where the zeros behind it end, and where the sum's bytes end.
+// Where the body starts, where the bytes that are summed end, and where the sum is.
 pub const BODY_AT: usize = 8;
 
-const SUM_OVER: usize = 504;
+const SUM_OVER: usize = BODY_AT + BODY;
 
-const SUM_AT: usize = 508;
+const SUM_AT: usize = BLOCK - 4;
 
-// The blocks of the longest run, which fill a buffer of 65,536 bytes, and its body.
-const MOST_BLOCKS: u16 = 128;
+// The version of a save's blocks.
+pub const VERSION: u16 = 1;
 
-const LONGEST_BODY: usize = 63488;
+// The bytes of the largest buffer, the blocks of the longest run, which fill it, and its body.
+pub const LARGEST: usize = 65536;
+
+pub const MOST_BLOCKS: u16 = (LARGEST / BLOCK) as u16;
+
+const LONGEST_BODY: usize = MOST_BLOCKS as usize * BODY;
 
 // A run that stands at the front of bytes: its version, and the length of its body.
 #[derive(Clone, Copy)]

@@ -1,8 +1,8 @@
 // A run of blocks: written, found, and its body joined.
-ghost use Rattle.std.specs.Prelude.{◌≡◌, true, ◌*◌, ◌/◌, ◌≤◌, length};
+ghost use Rattle.std.specs.Prelude.{◌≡◌, true, ◌*◌, ◌≤◌, length};
 ghost use Rattle.std.specs.Option.{IfSome};
 ghost use Rattle.blocks.specs.Block.{summed};
-ghost use Rattle.blocks.specs.Run.{body_in, count_of, every, Finds, put_body, put_run, run_of, UsedIn};
+ghost use Rattle.blocks.specs.Run.{body_in, count_of, Finds, put_body, put_run, run_of, Summed, UsedIn};
 
 use crate::block::{header, is_proper, write_block};
 use crate::passes::blocks_of;
@@ -16,7 +16,7 @@ pub fn count_of(size: usize) -> usize
     size.div_ceil(BODY)
 }
 
-// By place, since nothing is known of what lent chunks end as.
+// By place: std does not say what a slice ends as once its chunks were lent.
 fn write_blocks(out: &mut [u8], version: u16, body: &[u8])
     requires { (length out.old ≡ 512 * count_of (length body.now)) × (length body.now ≤ 63488) }
     ensures { out.new ≡ run_of version body.now }
@@ -28,8 +28,9 @@ fn write_blocks(out: &mut [u8], version: u16, body: &[u8])
     }
 }
 
-// Puts the run of a body at `at`, if the body is one and there is room for it.
+// Puts the run of a body at `at`, if the body is one and there is room for it: it cannot fail, since callers have tested both.
 // Ruled out: a run that goes on past its last block; an index that starts at 1.
+#[tactic(auto, using(crate::proofs::Joins::length_run))]
 pub fn write_run(out: &mut [u8], at: usize, version: u16, body: &[u8])
     ensures { out.new ≡ put_run at version body.now out.old }
 {
@@ -56,7 +57,7 @@ fn used_in(b: &[u8; BLOCK], version: u16, index: u16, count: u16) -> Option<usiz
 // What stands at the front of blocks whose sums are right.
 // Ruled out: a run that is cut off; a part-full block in the middle.
 pub fn run_at(s: &[u8]) -> Option<Run>
-    ensures { every summed (length s.now / 512) s.now ≡ true → Finds s.now result }
+    ensures { Summed s.now → Finds s.now result }
 {
     let blocks = blocks_of(s);
     let first = blocks.first()?;
@@ -73,7 +74,7 @@ pub fn run_at(s: &[u8]) -> Option<Run>
     Some(Run { version, size })
 }
 
-// By place too.
+// By place, as the blocks are written.
 fn join_parts(s: &[u8], out: &mut [u8])
     requires { (length out.old ≤ 63488) × (512 * count_of (length out.old) ≤ length s.now) }
     ensures { out.new ≡ body_in (length out.old) s.now }
@@ -86,7 +87,7 @@ fn join_parts(s: &[u8], out: &mut [u8])
     }
 }
 
-// Joins the body of a run of so many body bytes at the front of `out`, if they are there and `out` has room for them.
+// Joins the body of a run of so many body bytes at the front of `out`, if they are there and `out` has room for them: it cannot fail either.
 // Ruled out: the header of a block taken for body; a byte written past the body.
 pub fn join(s: &[u8], size: usize, out: &mut [u8])
     ensures { out.new ≡ put_body size s.now out.old }

@@ -40,6 +40,8 @@ pub room-widths : room widths ≡ 78
 unfolding room
 room-widths = refl
 
+pub ruleset record_room = (room-widths)
+
 pub widths-narrow : (i : ℕ) → get_or widths i 0 ≤ 8
 widths-narrow = wider-at widths 8 (search rules)
 

@@ -12,7 +12,7 @@ use lib.Pow.{pow_pos}
 use lib.Dec.{eqb}
 use lib.ListN.{length, take, drop, replicate, length-append, length-drop, length-replicate, take-append-drop}
 use lib.Seq.{take_at, drop_at, take_all, drop-drop, length-take-le}
-use borrow.Author.Tests.{eqb-true, eq-eqb, le-leb}
+use borrow.Author.Tests.{eqb-true, eq-eqb, ne_eqb, le-leb}
 use Rattle.error.proofs.Choice.{and_split}
 use Rattle.history.specs.declared.Items.{Items}
 use Rattle.history.specs.declared.Items.TheVariants as ItemsIs
@@ -36,6 +36,9 @@ name-eight n e = eqb-true (length n) 8 (and_split (eqb (length n) 8) (all_below 
 
 pub name-ascii : (n : List ℕ) → is_name n ≡ true → all_below 128 n ≡ true
 name-ascii n e = (and_split (eqb (length n) 8) (all_below 128 n) e).1
+
+pub name-not : (n : List ℕ) → (length n ≡ 8 → ⊥) → false ≡ is_name n
+name-not n e = simp (ne_eqb (length n) 8 e)
 
 -- ---- the bits of bytes
 bits_after : (done bs : List ℕ) (a : ℕ) → BitsOf a done → BitsOf (fold bit_or a bs) (done ++ bs)

@@ -1,5 +1,7 @@
 -- Internal: the record of its numbers. Nobody need believe it.
-use Rattle.std.specs.Prelude.{ℕ, List, get_or}
+use Rattle.std.specs.Prelude.{ℕ, List, [], ◌∷◌, get_or}
+use Rattle.std.specs.Coded.{×_prop, Unit-prop, le_prop}
+use Rattle.le_bytes.specs.Bytes.{Fit}
 use Rattle.breaker.specs.declared.Breaker.{Breaker}
 
 unfoldable pub breaker_of : List ℕ → Breaker
@@ -26,3 +28,10 @@ breaker_of vs =
             len = get_or vs 15 0;
           };
     }
+
+-- numbers fit their widths in one way
+pub Fit-prop : (ws vs : List ℕ) → IsProp (Fit ws vs)
+Fit-prop [] [] = Unit-prop
+Fit-prop [] (v ∷ vs) = λ x y. absurd x
+Fit-prop (w ∷ ws) [] = λ x y. absurd x
+Fit-prop (w ∷ ws) (v ∷ vs) = ×_prop le_prop (Fit-prop ws vs)

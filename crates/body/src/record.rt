@@ -1,14 +1,14 @@
-// The record's bytes: its numbers in document 01's order, each in its width.
+// The record's bytes: its numbers in the order of `record_fields` (breaker), each in its width.
 ghost use Rattle.std.specs.Prelude.{◌≡◌, ◌+◌, ◌≤◌, length, drop};
 ghost use Rattle.le_bytes.specs.Bytes.{decoded, encoded, written, Fit};
 ghost use Rattle.body.specs.Save.{widths, fields_of};
-ghost use Rattle.body.specs.Record.{breaker_of};
+ghost use Rattle.body.specs.Record.{breaker_of, Fit-prop};
 
 use breaker::{Breaker, Counts, Shared};
 use le_bytes::{number_at, put_number};
 use trip::Config;
 
-// How many numbers the record has, and the width of each.
+// How many numbers the record has, and the width of each: a list of its own, since a reader has the widths before any number.
 const FIELDS: usize = 16;
 
 const WIDTHS: [usize; FIELDS] = [1, 4, 8, 4, 8, 8, 4, 4, 1, 8, 4, 4, 4, 4, 8, 4];
@@ -38,75 +38,81 @@ fn fields_of(b: Breaker) -> [u64; FIELDS]
     ]
 }
 
-#[tactic(auto, unfolding(crate::specs::Record::breaker_of))]
-fn config_of(values: [u64; FIELDS]) -> Config
-    requires { Fit widths values }
-    ensures { result ≡ (breaker_of values).config }
-{
-    let [
-        kind,
-        limit,
-        ratio_bits,
-        min_calls,
-        period_ms,
-        cooldown_ms,
-        trials,
-        required,
-        ..
-    ] = values;
-    Config {
-        kind: kind as u8,
-        limit: limit as u32,
-        ratio_bits,
-        min_calls: min_calls as u32,
-        period_ms,
-        cooldown_ms,
-        trials: trials as u32,
-        required: required as u32,
+// The record's numbers, each within its width.
+#[derive(Clone, Copy)]
+struct Numbers {
+    values: [u64; FIELDS],
+    ghost fit: { Fit widths values } by { Fit-prop widths values },
+}
+
+impl Numbers {
+    #[tactic(auto, unfolding(crate::specs::Record::breaker_of))]
+    fn config(self) -> Config
+        ensures { result ≡ (breaker_of self.values).config }
+    {
+        let [
+            kind,
+            limit,
+            ratio_bits,
+            min_calls,
+            period_ms,
+            cooldown_ms,
+            trials,
+            required,
+            ..
+        ] = self.values;
+        Config {
+            kind: kind as u8,
+            limit: limit as u32,
+            ratio_bits,
+            min_calls: min_calls as u32,
+            period_ms,
+            cooldown_ms,
+            trials: trials as u32,
+            required: required as u32,
+        }
+    }
+
+    #[tactic(auto, unfolding(crate::specs::Record::breaker_of))]
+    fn shared(self) -> Shared
+        ensures { result ≡ (breaker_of self.values).shared }
+    {
+        let [
+            ..,
+            state,
+            generation,
+            run,
+            inflight,
+            trait_probes,
+            successes,
+            open_until,
+            len,
+        ] = self.values;
+        Shared {
+            state: state as u8,
+            generation,
+            run: run as u32,
+            counts: Counts {
+                inflight: inflight as u32,
+                trait_probes: trait_probes as u32,
+                successes: successes as u32,
+            },
+            open_until,
+            len: len as u32,
+        }
+    }
+
+    fn breaker(self) -> Breaker
+        ensures { result ≡ breaker_of self.values }
+    {
+        Breaker {
+            config: self.config(),
+            shared: self.shared(),
+        }
     }
 }
 
-#[tactic(auto, unfolding(crate::specs::Record::breaker_of))]
-fn shared_of(values: [u64; FIELDS]) -> Shared
-    requires { Fit widths values }
-    ensures { result ≡ (breaker_of values).shared }
-{
-    let [
-        ..,
-        state,
-        generation,
-        run,
-        inflight,
-        trait_probes,
-        successes,
-        open_until,
-        len,
-    ] = values;
-    Shared {
-        state: state as u8,
-        generation,
-        run: run as u32,
-        counts: Counts {
-            inflight: inflight as u32,
-            trait_probes: trait_probes as u32,
-            successes: successes as u32,
-        },
-        open_until,
-        len: len as u32,
-    }
-}
-
-fn breaker_of(values: [u64; FIELDS]) -> Breaker
-    requires { Fit widths values }
-    ensures { result ≡ breaker_of values }
-{
-    Breaker {
-        config: config_of(values),
-        shared: shared_of(values),
-    }
-}
-
-// The record's bytes at `at`.
+// The record's bytes at `at`, by a place that each width moves on: a table of places would be a third list, to keep in step with the widths.
 pub(crate) fn put_record(out: &mut [u8], at: usize, b: Breaker)
     requires { at + 78 ≤ length out.old }
     ensures { out.new ≡ written at (encoded widths (fields_of b)) out.old }
@@ -130,5 +136,5 @@ pub(crate) fn record_at(s: &[u8], at: usize) -> Breaker
         values[i] = number_at(s, next, *width);
         next += *width;
     }
-    breaker_of(values)
+    Numbers { values }.breaker()
 }

@@ -5,15 +5,10 @@ ghost use Rattle.history.specs.Items.{all_below, are_items, fits, padded};
 ghost use Rattle.body.specs.Save.{BodyRead, body_of, Good, is_name, item_width, put_save, Save, size_of};
 
 use crate::record::{put_record, record_at};
-use crate::{NAME, RECORD_END};
+use crate::{NAME, OUTCOME, RECORD_END, TIME};
 use breaker::{Breaker, items_of, sound_record};
 use history::{Items, PLACES, may_have};
 use le_bytes::{copy, items_at, put_items};
-
-// The bytes of an item: a time or an outcome.
-const TIME: usize = 8;
-
-const OUTCOME: usize = 1;
 
 fn item_width(items: Items) -> usize
     ensures { result ≡ item_width items }
@@ -26,6 +21,7 @@ fn item_width(items: Items) -> usize
 
 // The length of a breaker's body.
 // Ruled out: one byte for a time; a body without its name.
+#[tactic(auto, using(crate::proofs::Records::record_room))]
 pub fn size(b: Breaker) -> usize
     ensures { result ≡ size_of b }
 {
@@ -42,7 +38,7 @@ fn put_list(out: &mut [u8], kind: Items, items: &[u64])
     }
 }
 
-// Writes the body of a breaker under a name to the front of `out`, if there is room.
+// Writes the body of a breaker under a name to the front of `out`, if there is room: it cannot fail, since callers have room for any body.
 // Ruled out: a list that ends before its last item; one that begins with the record.
 pub fn write(out: &mut [u8], name: &[u8], b: Breaker, list: &[u64])
     ensures { out.new ≡ put_save name.now b list.now out.old }
@@ -71,7 +67,7 @@ pub fn is_name(s: &[u8]) -> bool
     s.len() == NAME && bits_of(s) < 128
 }
 
-// Whether bytes may be the items of a list: any may be those of a time.
+// Whether bytes may be the items of a list: any may be those of a time. They are judged as they lie, without reading the numbers first.
 fn are_items(items: Items, s: &[u8]) -> bool
     ensures { result ≡ are_items items s.now }
 {
@@ -101,7 +97,7 @@ pub fn read(s: &[u8]) -> Option<Breaker>
     is_body.then_some(b)
 }
 
-// Puts the list of a save into a storage: every place of it.
+// Puts the list of a save into a storage: every place of it. It cannot fail: callers have read the save, and have a storage.
 // Ruled out: a place of the list before that stays; a time of four bytes.
 pub fn list_in(s: &[u8], b: Breaker, list: &mut [u64])
     ensures { (x : Save) → Good x → s.now ≡ body_of x → x.breaker ≡ b → length list.old ≡ 4096 → list.new ≡ padded x.items }

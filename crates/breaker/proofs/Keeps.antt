@@ -14,6 +14,7 @@ use lib.Dec.{leb, eqb}
 use lib.ListN.{length}
 use borrow.Author.Tests.{leb-true, leb-false}
 use Rattle.std.proofs.Common.{Option}
+use Rattle.std.specs.Option.{is_some}
 use Rattle.error.specs.Choice.{bit}
 use Rattle.error.specs.Told.{Told, tell, refused}
 use Rattle.error.specs.declared.Refusal.TheVariants.{Full}
@@ -32,7 +33,7 @@ use Rattle.breaker.specs.declared.Delay.{Delay}
 use Rattle.breaker.specs.Record.{Settings, State, Closed, HalfOpen, Open, settings, state, fields, stored, sound_policy, sound_config, items_for, items_of, sound}
 use Rattle.breaker.specs.Rules.{Outcome, outcome, with_counts, with_history, moved, no_counts, one_more_trial, one_more_trait_probe, less_counts, counting, opening, closing, half_opening, returned, recorded, no_room, Call, success, failure, abort, trait_abort, probes, in_half_open, in_closed, settled, aborted, finish, ticket_of, released, manual, Admitted, granted, shed, admit, noted, via_trait, admit_as, reset}
 use Rattle.breaker.specs.Answers.{is_acquired}
-use Rattle.breaker.specs.Calls.{fresh, fresh_at, answered, admission, try_inner, try_admit, cancel, decided, reserved, handed_on, acquire_inner, acquire_cost, is_reserved, reserve_inner, reserve, refund}
+use Rattle.breaker.specs.Calls.{fresh, fresh_at, answered, admission, try_inner, try_admit, cancel, decided, reserved, handed_on, acquire_inner, acquire_cost, reserve_inner, reserve, refund}
 use Rattle.breaker.specs.Orders.{sequence}
 use Rattle.breaker.proofs.Cases.{probe-cases, admit-cases, failing, settled-cases, failure-cases, aborted-cases}
 use Rattle.breaker.proofs.Record.{SoundShared, Sound, config→, shared→, →shared, sound→, →sound, stored-state, padded-state}
@@ -273,7 +274,7 @@ pub sound-reserve : (inner : Option Delay) (reading : ℕ) → Keeps (reserve in
 sound-reserve inner reading c st ok = go (admit_as true (settings c) reading st) (sound-admit_as c st ok true reading)
   where
     go : (a : Admitted) → SoundGrant c a → SoundAt c (reserve_inner inner a st).after
-    go (granted t next) h = sound-handed_on c (is_reserved inner) (reserved inner) t next h
+    go (granted t next) h = sound-handed_on c (is_some inner) (reserved inner) t next h
     go (shed ms) h = ok
 
 -- ---- a call that is refused changes nothing

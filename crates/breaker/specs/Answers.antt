@@ -1,5 +1,5 @@
 -- "What a caller is told": for each answer enum, document 01's number and values of each case.
-use Rattle.std.specs.Prelude.{ℕ, Bool, true, false, List, [], ◌∷◌, Option, Some, None, Result, Ok, Err}
+use Rattle.std.specs.Prelude.{ℕ, Bool, true, false, List, [], ◌∷◌, Option, Some, None, Result}
 use Rattle.error.specs.Told.{Told, tell, nothing, refused, told_or, told_by}
 use Rattle.error.specs.declared.Refusal.{Refusal}
 use Rattle.error.specs.Choice.{bit}

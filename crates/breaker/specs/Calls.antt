@@ -1,5 +1,6 @@
 -- The entry points: each tests 3 and 4 (making a breaker: 3, 1, 2), and then does what its rule says. Definitions only.
-use Rattle.std.specs.Prelude.{ℕ, Bool, true, false, not, List, [], eqb, length, if◌then◌else◌, Option, Some, None, Result, Ok, Err}
+use Rattle.std.specs.Prelude.{ℕ, Bool, true, false, not, List, [], eqb, length, if◌then◌else◌, Option, None, Result, Ok, Err}
+use Rattle.std.specs.Option.{is_some}
 use Rattle.error.specs.Told.{Told, nothing, refused}
 use Rattle.error.specs.declared.Refusal.{Refusal}
 use Rattle.error.specs.declared.Refusal.TheVariants.{Storage, Unsound}
@@ -144,15 +145,11 @@ acquire_inner inner (shed ms) st = outcome (decided (retry ms)) st
 abbrev pub acquire_cost : Decision → ℕ → Settings → State → Outcome
 acquire_cost inner reading s st = acquire_inner inner (admit_as true s reading st) st
 
-abbrev pub is_reserved : Option Delay → Bool
-is_reserved (Some d) = true
-is_reserved None = false
-
 abbrev pub reserved : Option Delay → Told
 reserved w = reserved_told (Ok w)
 
 abbrev pub reserve_inner : Option Delay → Admitted → State → Outcome
-reserve_inner inner (granted t next) st = handed_on (is_reserved inner) (reserved inner) t next
+reserve_inner inner (granted t next) st = handed_on (is_some inner) (reserved inner) t next
 reserve_inner inner (shed ms) st = outcome (reserved None) st
 
 abbrev pub reserve : Option Delay → ℕ → Settings → State → Outcome

@@ -7,7 +7,6 @@ ghost use Rattle.breaker.specs.Rules.{no_counts};
 
 use crate::{Breaker, CLOSED, Counts, Delay, Shared};
 use error::Refusal;
-use history::MOST_ITEMS;
 use trip::CircuitBreakerBuilder;
 
 // Nothing counted.
@@ -15,11 +14,7 @@ use trip::CircuitBreakerBuilder;
 pub fn no_counts() -> Counts
     ensures { result ≡ no_counts }
 {
-    Counts {
-        inflight: 0,
-        trait_probes: 0,
-        successes: 0,
-    }
+    Counts::default()
 }
 
 // A fresh breaker, whatever record there was, and its list in the storage.
@@ -32,16 +27,12 @@ pub fn build(list: &mut [u64], builder: CircuitBreakerBuilder) -> Result<Breaker
         return Err(Refusal::Storage);
     }
     let config = builder.config()?;
-    let _emptied = history::clear(list, MOST_ITEMS);
+    list.fill(0);
     Ok(Breaker {
         config,
         shared: Shared {
             state: CLOSED,
-            generation: 0,
-            run: 0,
-            counts: no_counts(),
-            open_until: 0,
-            len: 0,
+            ..Shared::default()
         },
     })
 }

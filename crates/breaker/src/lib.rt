@@ -25,7 +25,7 @@ pub const OPEN: u8 = 2;
 
 // What is counted in HalfOpen.
 #[repr(C)]
-#[derive(Clone, Copy, Debug, PartialEq, Eq)]
+#[derive(Clone, Copy, Debug, Default, PartialEq, Eq)]
 pub struct Counts {
     // trials that are out
     pub inflight: u32,
@@ -34,9 +34,9 @@ pub struct Counts {
     pub successes: u32,
 }
 
-// What calls change of a breaker, in document 01's order.
+// What calls change of a breaker, in document 01's order. All 0, it is closed and has counted nothing.
 #[repr(C)]
-#[derive(Clone, Copy, Debug, PartialEq, Eq)]
+#[derive(Clone, Copy, Debug, Default, PartialEq, Eq)]
 pub struct Shared {
     // CLOSED, HALF_OPEN or OPEN
     pub state: u8,
@@ -50,7 +50,7 @@ pub struct Shared {
 }
 
 #[repr(C)]
-#[derive(Clone, Copy, Debug, PartialEq, Eq)]
+#[derive(Clone, Copy, Debug, Default, PartialEq, Eq)]
 pub struct Breaker {
     pub config: Config,
     pub shared: Shared,

@@ -38,7 +38,7 @@ pub(crate) fn sound_policy(c: Config) -> bool
 fn is_idle(counts: Counts) -> bool
     ensures { result ≡ is_idle counts }
 {
-    counts.inflight == 0 && counts.trait_probes == 0 && counts.successes == 0
+    counts == Counts::default()
 }
 
 #[tactic(auto, unfolding(crate::specs::Record::sound_shared))]

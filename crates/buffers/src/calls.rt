@@ -65,7 +65,7 @@ fn check(held: &Held, at: usize, size: usize) -> Result<Told> {
 }
 
 impl Call {
-    // Makes the call, and answers what it is told.
+    // Makes the call, and answers what it is told. A match, no table of functions: each call takes other arguments.
     pub(crate) fn make(&self, held: &mut Held) -> Result<Told> {
         match self {
             Call::Save(asked) => asked.save(held),

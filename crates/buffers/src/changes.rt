@@ -1,14 +1,14 @@
 // What the calls are made on, and what a line or a call changes of it.
 use anyhow::{Context, Result, ensure};
-use blocks::BLOCK;
-use breaker::{Breaker, CLOSED, Shared, no_counts};
+use blocks::{BLOCK, LARGEST};
+use breaker::{Breaker, Shared};
 use history::PLACES;
 use trip::Config;
 
 // The places of the storage and 8 behind it, the bytes of the largest buffer and two blocks behind it. No call may touch what is behind.
 const ALL_PLACES: usize = PLACES + 8;
 
-const ALL_BYTES: usize = 65536 + 2 * BLOCK;
+const ALL_BYTES: usize = LARGEST + 2 * BLOCK;
 
 // What stands in the places that no call may touch.
 const UNTOUCHED: u64 = 0x5a5a_5a5a_5a5a_5a5a;
@@ -35,7 +35,7 @@ pub(crate) enum Change<'a> {
     Bytes(usize, Vec<u8>),
 }
 
-// A number as a field of 8 or of 32 bits holds it.
+// A number as a field of 8 or of 32 bits holds it. An `as` that may lose bits is refused, so they are cut first.
 fn low_byte(value: u64) -> u8 {
     (value % 0x100) as u8
 }
@@ -50,26 +50,7 @@ impl Held {
         let mut list = [0; ALL_PLACES];
         list[PLACES..].fill(UNTOUCHED);
         Held {
-            breaker: Breaker {
-                config: Config {
-                    kind: 0,
-                    limit: 0,
-                    ratio_bits: 0,
-                    min_calls: 0,
-                    period_ms: 0,
-                    cooldown_ms: 0,
-                    trials: 0,
-                    required: 0,
-                },
-                shared: Shared {
-                    state: CLOSED,
-                    generation: 0,
-                    run: 0,
-                    counts: no_counts(),
-                    open_until: 0,
-                    len: 0,
-                },
-            },
+            breaker: Breaker::default(),
             list,
             buffer: [0; ALL_BYTES],
         }

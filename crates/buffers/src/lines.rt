@@ -1,4 +1,6 @@
 // The lines of the sample (lines.rs of oracle/saves), as what they change or call.
+// vectors reads settings and records too, as its own lines have them: a library's public function promises its result by a definition, and what
+// a sample's line holds, or that a number is too wide for its field, has none.
 use crate::calls::{Asked, Call};
 use crate::changes::Change;
 use crate::numbers::Numbers;
@@ -6,22 +8,14 @@ use anyhow::{Context, Result, bail};
 use breaker::{Breaker, Counts, Shared};
 use crossing::{Setting, Told};
 use std::alloc::Global;
-use trip::{Config, INFINITY_BITS, SIGN_BIT};
+use std::num::f64_from_bits_with_nan;
+use trip::Config;
 
 #[derive(Drop)]
 pub(crate) enum Line<'a> {
     Change(Change<'a>),
     // a call, what it is to be told, and what it is to change
     Call(Call, Told, Option<Change<'a>>),
-}
-
-// The number of these bits. Those of a NaN stand for any NaN.
-#[tactic(auto, using(trip::proofs::Floats::no_nan))]
-fn ratio(bits: u64) -> f64 {
-    if bits % SIGN_BIT > INFINITY_BITS {
-        return 0.0 / 0.0;
-    }
-    f64::from_bits(bits)
 }
 
 fn byte(number: &u64) -> Result<u8> {
@@ -45,7 +39,7 @@ impl<'a> Numbers<'a> {
         Ok(Setting {
             kind: kind.try_into()?,
             limit: limit.try_into()?,
-            ratio: ratio(ratio_bits),
+            ratio: f64_from_bits_with_nan(ratio_bits),
             min_calls: min_calls.try_into()?,
             period_secs,
             period_nanos: period_nanos.try_into()?,
@@ -219,7 +213,7 @@ impl<'a> Numbers<'a> {
             11 => self.restore(alloc)?,
             12 => self.reconfigure()?,
             13 => self.check()?,
-            _ => bail!("no such line"),
+            _ => bail!("no such line: {kind}"),
         };
         self.end()?;
         Ok(line)

@@ -1,5 +1,6 @@
 // Replays a sample of buffers of saves with calls, written by a second program from the documents (oracle/saves, seed 1), and counts the calls
 // that differ: in a number told, or after the call in the record, a place or a byte of the buffer.
+// A line that is none of the sample's ends it with an error.
 #![tactic(auto)]
 
 mod calls;
@@ -21,6 +22,6 @@ fn main(rt: HostRuntime) -> Result<()> {
             .line(rt.alloc(), number, line)
             .context(format_args!("line {number}"))?;
     }
-    replay.tallies.show(&rt)?;
+    print!(rt; "{}", replay.tallies)?;
     Ok(())
 }

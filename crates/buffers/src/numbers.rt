@@ -1,13 +1,16 @@
 // The numbers of a line: decimals below 2^64, one space between them.
+// vectors reads such lines too: a library's public function promises its result by a definition, and a sample's line has none.
 use anyhow::{Context, Result, ensure};
 use std::alloc::Global;
 use std::iter;
 
+// A sign in front, which `parse` takes, is none of the sample's.
 fn number(word: &str) -> Result<u64> {
-    ensure!(!word.starts_with('+'), "a sign");
-    Ok(word.parse()?)
+    ensure!(!word.starts_with('+'), "a sign: {word:?}");
+    word.parse().context(format_args!("no number: {word:?}"))
 }
 
+// All numbers of a line of text. No FromStr, which takes no allocator.
 pub(crate) fn all(alloc: Global, line: &str) -> Result<Vec<u64>> {
     line.split(' ').map(number).try_collect(alloc)
 }

@@ -1,6 +1,6 @@
 // What the program counts, and how it shows it.
 use crate::calls::Call;
-use std::{fmt, io};
+use std::fmt;
 
 // How often a call was told each number of the table.
 #[derive(Clone, Copy, Default)]
@@ -18,7 +18,7 @@ pub(crate) struct Tallies {
     first: Option<u64>,
 }
 
-// Counts one more.
+// Counts one more. vectors has it too: a library's function for it would be longer than this.
 fn count(tally: &mut u64) {
     *tally = tally.saturating_add(1);
 }
@@ -52,15 +52,17 @@ impl Tallies {
         count(&mut self.differences);
         self.first = self.first.or(Some(number));
     }
+}
 
-    pub(crate) fn show(&self, rt: &impl Print) -> io::Result<()> {
-        println!(rt; "told 0 1 2 3 4 5 6 7 8 9 10 11 12 13 14 15")?;
-        println!(rt; "save{}", self.save)?;
-        println!(rt; "restore{}", self.restore)?;
-        println!(rt; "reconfigure{}", self.reconfigure)?;
-        println!(rt; "check_block{}", self.check)?;
-        println!(rt; "calls {}", self.calls)?;
-        println!(rt; "differ {}", self.differences)?;
-        println!(rt; "first at line {}", self.first.unwrap_or(0))
+impl fmt::Display for Tallies {
+    fn fmt<W: fmt::Write>(&self, f: &mut fmt::Formatter<W>) -> fmt::Result {
+        writeln!(f, "told 0 1 2 3 4 5 6 7 8 9 10 11 12 13 14 15")?;
+        writeln!(f, "save{}", self.save)?;
+        writeln!(f, "restore{}", self.restore)?;
+        writeln!(f, "reconfigure{}", self.reconfigure)?;
+        writeln!(f, "check_block{}", self.check)?;
+        writeln!(f, "calls {}", self.calls)?;
+        writeln!(f, "differ {}", self.differences)?;
+        writeln!(f, "first at line {}", self.first.unwrap_or(0))
     }
 }

@@ -7,7 +7,8 @@ ghost use Rattle.breaker.specs.Calls as Calls;
 ghost use Rattle.breaker.specs.Calls.{on_sound, asked};
 ghost use Rattle.breaker.specs.Orders.{FinishingOrders};
 ghost use Rattle.breaker.specs.Batch.{slices, finished_all};
-ghost use Rattle.crossing.specs.Crossing.{packed, crossing, crossed, crossings, crossed_all, ticket_by, is_reply, decision_by, on_reply, built_by, reconfigured_by};
+ghost use Rattle.crossing.specs.Crossing.{packed, crossing, crossed, crossings, crossed_all};
+ghost use Rattle.crossing.specs.Crossing.{ticket_by, is_reply, decision_by, on_reply, built_by, reconfigured_by};
 
 use breaker::Breaker;
 use crossing::{PlainTicket, Setting, Told};

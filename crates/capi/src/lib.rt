@@ -1,6 +1,6 @@
 // The breaker, and a wait before it, for C: exported functions over records and storage that the caller lends, each thin over plain's call
-// of its name by value. Only numbers cross. A flag that comes in is a byte: 0 is false, any other number true. `include/pudvirez.h`
-// declares what stands here.
+// of its name by value, `pudvirez_is_sound` over breaker's. They are alike, and C wants a name for each. Only numbers cross. A flag that
+// comes in is a byte: 0 is false, any other number true. `include/pudvirez.h` declares what stands here.
 #![tactic(auto)]
 
 mod calls;

@@ -1,26 +1,25 @@
-// Saving a breaker under a name, and coming back to it. A call that is refused leaves all as it was.
-ghost use Rattle.std.specs.Prelude.{◌≡◌, true, List, ◌++◌, ℕ, ◌/◌, ◌≤◌, length};
+// Saving a breaker under a name, and coming back to it. A call that is refused leaves all as it was. Buffer, used length and name stay three
+// parameters: C hands them apart, and each call tests them anew. The clause over a `Reading` stands whole at each level, here and above, so that
+// its reader sees all of it.
+ghost use Rattle.std.specs.Prelude.{◌≡◌, true, List, ◌++◌, ℕ, ◌≤◌, length};
 ghost use Rattle.history.specs.Items.{padded};
 ghost use Rattle.breaker.specs.Record.{sound, state};
 ghost use Rattle.breaker.specs.Rules.{done, returned};
 ghost use Rattle.breaker.specs.Calls.{done_by_value, kept};
-ghost use Rattle.blocks.specs.Block.{summed};
-ghost use Rattle.blocks.specs.Run.{every, run_of};
+ghost use Rattle.blocks.specs.Run.{run_of, Summed};
 ghost use Rattle.body.specs.Save.{body_of, Good, Save};
 ghost use Rattle.saves.specs.Buffer.{Reading, Reads};
 ghost use Rattle.checkpoints.specs.Calls.{restored, save_after, saved, saved_in, saved_new, saving_told};
 
 use crate::room;
-use blocks::{BLOCK, count_of, join, run_at, write_run};
+use blocks::{BLOCK, VERSION, count_of, join, run_at, write_run};
 use body::{is_name, list_in, read, size, write};
 use breaker::{Breaker, test};
 use error::Refusal;
 use saves::{ROOM, look};
 
-// The version of a new save.
-const VERSION: u16 = 1;
-
-// A name that is not there: its blocks at the used length, if they fit.
+// A name that is not there: its blocks at the used length, if they fit. (Record and list stay apart: a struct of a sound breaker would have to
+// lend the list.)
 fn save_new(
     breaker: Breaker,
     list: &[u64],
@@ -64,10 +63,11 @@ pub fn save(
     }
 }
 
-// The save at the front of blocks whose sums are right, put in force. Where none stands, which a look rules out, all is left.
+// The save at the front of blocks whose sums are right, put in force. It is read as saves' `save_at` reads it, which keeps no more than a name
+// and a size. Where none stands, which a look rules out, all is left.
 fn come_back(breaker: Breaker, list: &mut [u64], s: &[u8]) -> Result<Breaker, Refusal>
-    ensures { (x : Save) (rest : List ℕ) → Good x → s.now ≡ run_of 1 (body_of x) ++ rest
-        → every summed (length s.now / 512) s.now ≡ true → length list.old ≡ 4096
+    requires { Summed s.now }
+    ensures { (x : Save) (rest : List ℕ) → Good x → s.now ≡ run_of 1 (body_of x) ++ rest → length list.old ≡ 4096
         → done_by_value result breaker list.new
         ≡ kept x.breaker.config (done (returned breaker.shared.generation (state x.breaker (padded x.items)))) }
 {

@@ -1,5 +1,5 @@
 // What came of an admission: outcomes, aborts and resets, and the board figure. Each call tests the breaker first, and a refused one leaves all
-// as it was.
+// as it was. Reading, ticket and outcome stay apart, as the Rust and C hand them.
 #![tactic(auto, unfolding(breaker::specs::Calls::on_sound, breaker::specs::Calls::asked, breaker::specs::Calls::reconfigured))]
 
 ghost use Rattle.std.specs.Prelude.{◌≡◌};

@@ -1,5 +1,5 @@
 -- Nothing is lost of a wait's ticket: what a caller holds after a call, read again, is what the rule leaves. Assumes nothing.
-use Rattle.std.proofs.Common.{◌≡◌, ℕ, Bool, not, List, refl, ap, eqb, length, Result, Ok, Err}
+use Rattle.std.proofs.Common.{◌≡◌, ℕ, Bool, not, List, refl, ap, eqb, length, Option, Some, None, Result, Ok, Err, Continue, Break}
 use Rattle.error.specs.Told.{refused}
 use Rattle.error.specs.declared.Refusal.{Refusal}
 use Rattle.error.specs.declared.Refusal.TheVariants.{Storage, Unsound}
@@ -11,12 +11,9 @@ use Rattle.breaker.specs.Rules.{Admitted, granted, shed, admit}
 use Rattle.breaker.specs.Calls.{guarded}
 use Rattle.wait.specs.declared.Wait.{Wait}
 use Rattle.wait.specs.declared.Observed.{Observed}
-use Rattle.wait.specs.declared.Turned.{Turned}
-use Rattle.wait.specs.declared.Turned.TheVariants as TurnedIs
-use Rattle.wait.specs.declared.Turning.{Turning}
-use Rattle.wait.specs.declared.Ran.{Ran}
-use Rattle.wait.specs.declared.Ran.TheVariants as RanIs
-use Rattle.wait.specs.declared.Dropping.{Dropping}
+use Rattle.wait.specs.declared.Ending.{Ending}
+use Rattle.wait.specs.declared.AndWait.{AndWait}
+use Rattle.wait.specs.Answers.{Turned}
 use Rattle.wait.specs.Turns.{started}
 use Rattle.keep.specs.Keep.{keep}
 use Rattle.wait.specs.Manner.{turned, dropped}
@@ -62,10 +59,10 @@ module _ (handed : PlainPending) where
     start-held reading clock limited timeout = guarded-cases StartHeld (λ r. Waits.pending_after (refused r) b s p) _ b s refused-held (started-held (started clock limited timeout) reading)
 
     goes-held : (x : Turned) (w : Wait) (reading capacity : ℕ) → TurnHeld (Waits.goes_on x w reading capacity b s p)
-    goes-held (TurnedIs.Next act) w reading capacity = refl
-    goes-held (TurnedIs.Ends e) w reading capacity = refl
+    goes-held (Continue act) w reading capacity = refl
+    goes-held (Break e) w reading capacity = refl
 
-    turned-held : (x : Result Turning Refusal) (reading capacity : ℕ) → TurnHeld (Waits.turned_to x reading capacity b s p)
+    turned-held : (x : Result (AndWait Turned) Refusal) (reading capacity : ℕ) → TurnHeld (Waits.turned_to x reading capacity b s p)
     turned-held (Ok x) reading capacity = goes-held x.answer x.wait reading capacity
     turned-held (Err r) reading capacity = refl
 
@@ -73,9 +70,9 @@ module _ (handed : PlainPending) where
     unfolding turn_pending
     turn-held t reading capacity = guarded-cases TurnHeld (λ r. Waits.pending_after (refused r) b s p) _ b s (λ r. refl) (turned-held (turned keep p.wait t) reading capacity)
 
-    ran-held : (x : Result Ran Refusal) (w : Wait) (reading capacity : ℕ) → TurnHeld (Waits.ran_to x w reading capacity b s p)
-    ran-held (Ok (RanIs.Ends e)) w reading capacity = refl
-    ran-held (Ok RanIs.Unfinished) w reading capacity = refl
+    ran-held : (x : Result (Option Ending) Refusal) (w : Wait) (reading capacity : ℕ) → TurnHeld (Waits.ran_to x w reading capacity b s p)
+    ran-held (Ok (Some e)) w reading capacity = refl
+    ran-held (Ok None) w reading capacity = refl
     ran-held (Err r) w reading capacity = refl
 
     pub run-held : (turns : List ℕ) (limit reading capacity : ℕ) → TurnHeld (run_pending turns limit reading capacity b s p).left
@@ -83,10 +80,10 @@ module _ (handed : PlainPending) where
     run-held turns limit reading capacity =
         let Held : Waits.PendingRun → Type 0 = λ x. TurnHeld x.left in
         if-cases Held (whole_turns turns)
-        (λ e. guarded-cases Held (λ r. Waits.pending_run (Waits.pending_after (refused r) b s p) 0) _ b s (λ r. refl) (ran-held (runs keep p.wait turns limit).answer (runs keep p.wait turns limit).wait reading capacity))
+        (λ e. guarded-cases Held (λ r. Waits.pending_run (Waits.pending_after (refused r) b s p) 0) _ b s (λ r. refl) (ran-held (runs keep p.wait turns limit).answer.course (runs keep p.wait turns limit).wait reading capacity))
         (λ e. refl)
 
-    dropped-held : (x : Result Dropping Refusal) → TurnHeld (Waits.dropped_to x b s p)
+    dropped-held : (x : Result (AndWait ℕ) Refusal) → TurnHeld (Waits.dropped_to x b s p)
     dropped-held (Ok x) = refl
     dropped-held (Err r) = refl
 

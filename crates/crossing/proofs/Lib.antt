@@ -2,3 +2,4 @@
 pub mod Packed
 pub mod PackedWait
 pub mod Held
+pub mod Tells

@@ -52,27 +52,33 @@ kind_width delayed n v =
 
 -- ---- a refusal has no value
 
+-- a reading of the number alone that is right for each refusal is right for all
+abbrev Right : (ℕ → Answer) → ℕ → Type 0
+Right back n = back n ≡ tell n []
+
+pub refused-back : (back : ℕ → Answer) (r : Refusal)
+    → Right back 1 → Right back 2 → Right back 3 → Right back 4 → Right back 5 → Right back 11 → Right back 13 → Right back 14 → Right back 15
+    → back (number_of r) ≡ refused r
+refused-back back Time p1 p2 p3 p4 p5 p11 p13 p14 p15 = p1
+refused-back back Limit p1 p2 p3 p4 p5 p11 p13 p14 p15 = p2
+refused-back back Storage p1 p2 p3 p4 p5 p11 p13 p14 p15 = p3
+refused-back back Unsound p1 p2 p3 p4 p5 p11 p13 p14 p15 = p4
+refused-back back Full p1 p2 p3 p4 p5 p11 p13 p14 p15 = p5
+refused-back back Turn p1 p2 p3 p4 p5 p11 p13 p14 p15 = p11
+refused-back back Damaged p1 p2 p3 p4 p5 p11 p13 p14 p15 = p13
+refused-back back Version p1 p2 p3 p4 p5 p11 p13 p14 p15 = p14
+refused-back back Name p1 p2 p3 p4 p5 p11 p13 p14 p15 = p15
+
 -- so says a width, of the nine numbers
 abbrev pub Bare : (ℕ → ℕ → ℕ) → Type 0
 Bare width = map (λ n. width n 0) (1 ∷ 2 ∷ 3 ∷ 4 ∷ 5 ∷ 11 ∷ 13 ∷ 14 ∷ 15 ∷ []) ≡ 0 ∷ 0 ∷ 0 ∷ 0 ∷ 0 ∷ 0 ∷ 0 ∷ 0 ∷ 0 ∷ []
 
-module _ (width : ℕ → ℕ → ℕ) (bare : Bare width) where
-  nth : (i : ℕ) → get_or (map (λ n. width n 0) (1 ∷ 2 ∷ 3 ∷ 4 ∷ 5 ∷ 11 ∷ 13 ∷ 14 ∷ 15 ∷ [])) i 0 ≡ get_or (0 ∷ 0 ∷ 0 ∷ 0 ∷ 0 ∷ 0 ∷ 0 ∷ 0 ∷ 0 ∷ []) i 0
-  nth i = ap (λ (ws : List ℕ). get_or ws i 0) bare
-
-  no-value : (r : Refusal) → width (number_of r) 0 ≡ 0
-  no-value Time = nth 0
-  no-value Limit = nth 1
-  no-value Storage = nth 2
-  no-value Unsound = nth 3
-  no-value Full = nth 4
-  no-value Turn = nth 5
-  no-value Damaged = nth 6
-  no-value Version = nth 7
-  no-value Name = nth 8
-
-  pub refused-back : (r : Refusal) (zeros : List ℕ) → tell (number_of r) (take (width (number_of r) 0) zeros) ≡ refused r
-  refused-back r zeros = ap (λ (k : ℕ). tell (number_of r) (take k zeros)) (no-value r)
+pub bare-back : (width : ℕ → ℕ → ℕ) → Bare width → (r : Refusal) (zeros : List ℕ) → tell (number_of r) (take (width (number_of r) 0) zeros) ≡ refused r
+bare-back width bare r zeros =
+    let at : (n i : ℕ) → tell n (take (get_or (map (λ m. width m 0) (1 ∷ 2 ∷ 3 ∷ 4 ∷ 5 ∷ 11 ∷ 13 ∷ 14 ∷ 15 ∷ [])) i 0) zeros) ≡ tell n (take (get_or (0 ∷ 0 ∷ 0 ∷ 0 ∷ 0 ∷ 0 ∷ 0 ∷ 0 ∷ 0 ∷ []) i 0) zeros)
+    = λ n i. ap (λ (ws : List ℕ). tell n (take (get_or ws i 0) zeros)) bare
+    in
+    refused-back (λ n. tell n (take (width n 0) zeros)) r (at 1 0) (at 2 1) (at 3 2) (at 4 3) (at 5 4) (at 11 5) (at 13 6) (at 14 7) (at 15 8)
 
 -- ---- an answer is read back where what it tells, and what is told in its place, is
 
@@ -85,14 +91,14 @@ module _ (width : ℕ → ℕ → ℕ) where
   or-back answer instead f g (Err e) = g e
 
   by-back : {A : Type 0} (answer : A → Answer) → Bare width → ((a : A) → Back (answer a)) → (x : Result A Refusal) → Back (told_by answer x)
-  by-back answer bare f = or-back answer refused f (λ r. refused-back width bare r (0 ∷ 0 ∷ 0 ∷ []))
+  by-back answer bare f = or-back answer refused f (λ r. bare-back width bare r (0 ∷ 0 ∷ 0 ∷ []))
 
   shed-back : {A : Type 0} (answer : A → Answer) → Bare width → ((v : ℕ) → width 6 v ≡ 1) → ((a : A) → Back (answer a)) → (x : Result A NotAdmitted) → Back (told_or answer not_admitted x)
   shed-back answer bare one f = or-back answer not_admitted f instead
     where
       instead : (e : NotAdmitted) → Back (not_admitted e)
       instead (NotAdmittedIs.Shed d) = ap (λ (k : ℕ). tell 6 (take k (d.ms ∷ 0 ∷ 0 ∷ []))) (one d.ms)
-      instead (NotAdmittedIs.Refused r) = refused-back width bare r (0 ∷ 0 ∷ 0 ∷ [])
+      instead (NotAdmittedIs.Refused r) = bare-back width bare r (0 ∷ 0 ∷ 0 ∷ [])
 
 -- ---- the ten answers
 

@@ -1,5 +1,5 @@
 -- Nothing is lost where a wait's answer is packed: what was told, and the turns taken, are read back from the six numbers. Assumes nothing.
-use Rattle.std.proofs.Common.{◌≡◌, ℕ, [], ◌∷◌, refl, sym, ap, ◌∙◌, eqb, take, if◌then◌else◌, Result, Ok, Err}
+use Rattle.std.proofs.Common.{◌≡◌, ℕ, [], ◌∷◌, refl, sym, ap, ◌∙◌, eqb, take, if◌then◌else◌, Option, Some, None, Result, Ok, Err, Continue, Break}
 use Rattle.error.specs.Told.{Told as Answer, tell, told_by}
 use Rattle.error.specs.declared.Refusal.{Refusal}
 use Rattle.breaker.specs.declared.NotAdmitted.{NotAdmitted}
@@ -8,14 +8,10 @@ use Rattle.wait.specs.declared.Act.TheVariants.{Sleep, SleepUnlessResumed, Yield
 use Rattle.wait.specs.Answers.{dropped_told}
 use Rattle.waiting.specs.declared.Completed.{Completed}
 use Rattle.waiting.specs.declared.Completed.TheVariants as CompletedIs
-use Rattle.waiting.specs.declared.Awaited.{Awaited}
-use Rattle.waiting.specs.declared.Awaited.TheVariants as AwaitedIs
-use Rattle.waiting.specs.declared.Course.{Course}
-use Rattle.waiting.specs.declared.Course.TheVariants as CourseIs
-use Rattle.waiting.specs.Answers.{begun_told, completed_told, awaited_is, awaited_told, course_is, course_told}
+use Rattle.waiting.specs.Answers.{begun_told, completed_told, Awaited, awaited_is, awaited_told, course_is, course_told}
 use Rattle.crossing.specs.declared.Waited.{Waited}
 use Rattle.crossing.specs.Waits.{packed_wait}
-use Rattle.crossing.proofs.Packed.{Bare, refused-back}
+use Rattle.crossing.proofs.Packed.{Bare, bare-back}
 
 -- an answer, read back: `width` says how many values it has, by its number and its first value
 abbrev pub restored : (ℕ → ℕ → ℕ) → Waited → Answer
@@ -55,12 +51,12 @@ dropped_width n v = if eqb n 0 then 1 else 0
 by-back : (width : ℕ → ℕ → ℕ) {A : Type 0} (answer : A → Answer) (n : ℕ) → Bare width → ((a : A) → restored width (packed_wait (answer a) n) ≡ answer a)
     → (x : Result A Refusal) → restored width (packed_wait (told_by answer x) n) ≡ told_by answer x
 by-back width answer n bare f (Ok a) = f a
-by-back width answer n bare f (Err r) = refused-back width bare r (0 ∷ 0 ∷ 0 ∷ 0 ∷ [])
+by-back width answer n bare f (Err r) = bare-back width bare r (0 ∷ 0 ∷ 0 ∷ 0 ∷ [])
 
 pub begun-back : (a : Result (Unit {0}) NotAdmitted) (n : ℕ) → restored begun_width (packed_wait (begun_told a) n) ≡ begun_told a
 begun-back (Ok u) n = refl
 begun-back (Err (NotAdmittedIs.Shed d)) n = refl
-begun-back (Err (NotAdmittedIs.Refused r)) n = refused-back begun_width refl r (0 ∷ 0 ∷ 0 ∷ 0 ∷ [])
+begun-back (Err (NotAdmittedIs.Refused r)) n = bare-back begun_width refl r (0 ∷ 0 ∷ 0 ∷ 0 ∷ [])
 
 pub completed-back : (e : Completed) (n : ℕ) → restored wait_width (packed_wait (completed_told e) n) ≡ completed_told e
 completed-back (CompletedIs.Admitted t) n = refl
@@ -72,21 +68,21 @@ pub awaited-back : (a : Result Awaited Refusal) (n : ℕ) → restored wait_widt
 awaited-back a n = by-back wait_width awaited_is n refl back a
   where
     back : (x : Awaited) → restored wait_width (packed_wait (awaited_is x) n) ≡ awaited_is x
-    back (AwaitedIs.Next (Sleep nanos)) = refl
-    back (AwaitedIs.Next (SleepUnlessResumed nanos epoch)) = refl
-    back (AwaitedIs.Next Yield) = refl
-    back (AwaitedIs.Next LookAgain) = refl
-    back (AwaitedIs.Ends e) = completed-back e n
+    back (Continue (Sleep nanos)) = refl
+    back (Continue (SleepUnlessResumed nanos epoch)) = refl
+    back (Continue Yield) = refl
+    back (Continue LookAgain) = refl
+    back (Break e) = completed-back e n
 
-pub course-back : (a : Result Course Refusal) (n : ℕ) → restored wait_width (packed_wait (course_told a) n) ≡ course_told a
+pub course-back : (a : Result (Option Completed) Refusal) (n : ℕ) → restored wait_width (packed_wait (course_told a) n) ≡ course_told a
 course-back a n = by-back wait_width course_is n refl back a
   where
-    back : (x : Course) → restored wait_width (packed_wait (course_is x) n) ≡ course_is x
-    back (CourseIs.Ends e) = completed-back e n
-    back CourseIs.Unfinished = refl
+    back : (x : Option Completed) → restored wait_width (packed_wait (course_is x) n) ≡ course_is x
+    back (Some e) = completed-back e n
+    back None = refl
 
 -- a run's course and its count, both: what two runs are told is equal only if these are
-pub run-known : (a b : Result Course Refusal) (m n : ℕ) → packed_wait (course_told a) m ≡ packed_wait (course_told b) n → (course_told a ≡ course_told b) × (m ≡ n)
+pub run-known : (a b : Result (Option Completed) Refusal) (m n : ℕ) → packed_wait (course_told a) m ≡ packed_wait (course_told b) n → (course_told a ≡ course_told b) × (m ≡ n)
 run-known a b m n = known_by wait_width (course_told a) (course_told b) m n (course-back a m) (course-back b n)
 
 pub dropped-back : (a : Result ℕ Refusal) (n : ℕ) → restored dropped_width (packed_wait (dropped_told a) n) ≡ dropped_told a

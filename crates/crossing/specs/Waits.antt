@@ -1,5 +1,7 @@
 -- What of a wait crosses to C: an answer as plain numbers, the pending wait that a caller holds, and what a call leaves. Definitions only.
 use Rattle.std.specs.Prelude.{ℕ, List, eqb, get_or, if◌then◌else◌}
+use Rattle.std.specs.declared.ops.ControlFlow.{ControlFlow}
+use Rattle.std.specs.declared.ops.ControlFlow.TheVariants.{Continue, Break}
 use Rattle.error.specs.Choice.{bit}
 use Rattle.error.specs.Told.{Told as Answer}
 use Rattle.breaker.specs.declared.Ticket.{Ticket}
@@ -14,6 +16,11 @@ use Rattle.crossing.specs.Crossing.{ticket_by}
 -- the number, the values in their order, 0 where there is none, and the turns that a run took
 abbrev pub packed_wait : Answer → ℕ → Waited
 packed_wait t taken = record { number = t.number; v1 = get_or t.values 0 0; v2 = get_or t.values 1 0; v3 = get_or t.values 2 0; v4 = get_or t.values 3 0; taken = taken }
+
+-- what is told of a turn: of how the wait ends, or of what the host is to do
+abbrev pub flow_told : {E A : Type 0} → (E → Answer) → (A → Answer) → ControlFlow E A → Answer
+flow_told ends goes (Break e) = ends e
+flow_told ends goes (Continue a) = goes a
 
 -- ---- a wait with its ticket, as a caller holds it
 

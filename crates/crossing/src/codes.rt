@@ -1,6 +1,6 @@
-// The codes that cross, each in one place. The refusals' numbers stand in error, a policy's kinds in trip.
+// The codes that cross, each in one place, as numbers, since C has no other. The refusals' numbers stand in error, a policy's kinds in trip.
 
-// ---- document 01's numbers where a call is told something else than a refusal
+// ---- the table's numbers where a call is told something else than a refusal
 pub const TOLD_SHED: u32 = 6;
 
 pub const TOLD_RETRY: u32 = 7;
@@ -11,7 +11,7 @@ pub const TOLD_DEADLINE: u32 = 9;
 
 pub const TOLD_UNFINISHED: u32 = 10;
 
-// ---- kinds of an inner limiter's reply
+// ---- kinds of an inner limiter's reply; those of a reply to a turn are others, of another table (crate wait)
 pub const REPLY_ACQUIRED: u8 = 1;
 
 pub const REPLY_RETRY: u8 = 2;

@@ -9,19 +9,20 @@ mod ticket;
 mod waits;
 
 use breaker::Breaker;
+pub use codes::TOLD_UNFINISHED;
 pub use reply::{
     decision_by, is_reply, is_reservable, known_decision, known_reservation, reservation_by,
     tell_unknown,
 };
 pub use settings::{builder_by, is_policy, known_builder, tell_unknown_policy};
 pub use tell::{Tell, tell_judged, tell_wait};
-pub use ticket::{after_turn, pending_by, plain_pending, ticket_by};
+pub use ticket::after_turn;
 use wait::Wait;
 
-// What a caller is told: the number of document 01's table, 0 where the call was not refused,
+// What a caller is told: the number of the table, 0 where the call was not refused,
 // and the values of breaker's specs/Answers in their order, 0 where there is none. A probe flag is a value of 0 or 1.
 #[repr(C)]
-#[derive(Clone, Copy, Debug, PartialEq, Eq)]
+#[derive(Clone, Copy, Debug, Default, PartialEq, Eq)]
 pub struct Told {
     pub number: u32,
     pub v1: u64,
@@ -31,7 +32,7 @@ pub struct Told {
 
 // What a caller of a wait is told: as above, with the values of wait's and waiting's specs/Answers, and the turns that a run took.
 #[repr(C)]
-#[derive(Clone, Copy, Debug, PartialEq, Eq)]
+#[derive(Clone, Copy, Debug, Default, PartialEq, Eq)]
 pub struct Waited {
     pub number: u32,
     pub v1: u64,

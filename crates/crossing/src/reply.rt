@@ -31,7 +31,7 @@ pub fn decision_by(kind: u8, ms: u64) -> Decision
     }
 }
 
-// The same where the kind is one, else nothing.
+// The same where the kind is one, else nothing: no TryFrom, since what is told of an unknown kind depends on record and list, not on the kind.
 // Ruled out: nothing for an impossible; a kind of 4 taken for one.
 pub fn known_decision(kind: u8, ms: u64) -> Option<Decision>
     ensures { result ≡ (if is_reply kind then Some (decision_by kind ms) else None) }
@@ -55,7 +55,7 @@ pub fn reservation_by(kind: u8, ms: u64) -> Option<Delay>
     (kind == RESERVED_WAIT).then(|| delayed(ms))
 }
 
-// The same where the kind is one, else nothing.
+// The same where the kind is one, else nothing: the inner Option is the limiter's answer, the outer says whether the kind is known.
 // Ruled out: nothing for a kind of 0; a kind of 2 taken for none.
 pub fn known_reservation(kind: u8, ms: u64) -> Option<Option<Delay>>
     ensures { result ≡ (if reservable kind then Some (reservation_by kind ms) else None) }

@@ -54,7 +54,7 @@ pub fn builder_by(setting: Setting) -> CircuitBreakerBuilder
     }
 }
 
-// The same where its policy's kind is one, else nothing.
+// The same where its policy's kind is one, else nothing: no TryFrom, since what is told of an unknown kind depends on the list, not on the kind.
 // Ruled out: nothing for a windowed policy; a kind of 4 taken for one.
 pub fn known_builder(setting: Setting) -> Option<CircuitBreakerBuilder>
     ensures { result ≡ (if is_policy setting.kind then Some (builder_by setting) else None) }

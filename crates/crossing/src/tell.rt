@@ -77,7 +77,7 @@ impl Tell for () {
     ghost three = { λ _. refl };
 }
 
-// A count, a refund or what is given back.
+// A count, a refund or what is given back. The bodies of the three integers' impls are a line each, and differ in how they widen.
 impl Tell for u64 {
     ghost told = { λ n. tell 0 (n ∷ []) };
 

@@ -9,42 +9,54 @@ use waiting::Pending;
 
 // What a ticket that comes in means.
 // Ruled out: a probe byte of 2 read as false; every ticket read as a probe.
-pub fn ticket_by(ticket: PlainTicket) -> Ticket
-    ensures { result ≡ ticket_by ticket }
-{
-    Ticket {
-        generation: ticket.generation,
-        probe: ticket.probe != 0,
+impl From<PlainTicket> for Ticket {
+    ghost from_gives = { λ plain ticket. ticket ≡ ticket_by plain };
+
+    fn from(plain: PlainTicket) -> Ticket {
+        Ticket {
+            generation: plain.generation,
+            probe: plain.probe != 0,
+        }
     }
 }
 
 // What a pending wait that comes in means.
 // Ruled out: another wait than the one handed in; a ticket that is never a probe.
-pub fn pending_by(pending: PlainPending) -> Pending
-    ensures { result ≡ pending_by pending }
-{
-    let wait = pending.wait;
-    let ticket = ticket_by(pending.ticket);
-    Pending { wait, ticket }
+impl From<PlainPending> for Pending {
+    ghost from_gives = { λ plain pending. pending ≡ pending_by plain };
+
+    fn from(plain: PlainPending) -> Pending {
+        Pending {
+            wait: plain.wait,
+            ticket: plain.ticket.into(),
+        }
+    }
 }
 
-fn plain_ticket(ticket: Ticket) -> PlainTicket
-    ensures { result ≡ plain_ticket ticket }
-{
-    PlainTicket {
-        generation: ticket.generation,
-        probe: u8::from(ticket.probe),
+// A new ticket, as its caller holds it.
+// Ruled out: a probe told with a byte of 0; a generation of 0 for all.
+impl From<Ticket> for PlainTicket {
+    ghost from_gives = { λ ticket plain. plain ≡ plain_ticket ticket };
+
+    fn from(ticket: Ticket) -> PlainTicket {
+        PlainTicket {
+            generation: ticket.generation,
+            probe: u8::from(ticket.probe),
+        }
     }
 }
 
 // A new wait with its ticket, as its caller holds it.
 // Ruled out: a probe told with a byte of 0; a wait that has ended.
-pub fn plain_pending(pending: Pending) -> PlainPending
-    ensures { result ≡ plain_pending pending }
-{
-    let wait = pending.wait;
-    let ticket = plain_ticket(pending.ticket);
-    PlainPending { wait, ticket }
+impl From<Pending> for PlainPending {
+    ghost from_gives = { λ pending plain. plain ≡ plain_pending pending };
+
+    fn from(pending: Pending) -> PlainPending {
+        PlainPending {
+            wait: pending.wait,
+            ticket: pending.ticket.into(),
+        }
+    }
 }
 
 // The pending wait that a caller holds after a turn, a run or a drop.

@@ -1,8 +1,9 @@
 // The answers of a wait as plain numbers.
-ghost use Rattle.std.specs.Prelude.{refl};
+ghost use Rattle.std.specs.Prelude.{refl, Some, None};
 ghost use Rattle.error.specs.Told.{tell};
 ghost use Rattle.wait.specs.Answers.{act_values};
-ghost use Rattle.waiting.specs.Answers.{awaited_is, completed_told, course_is};
+ghost use Rattle.waiting.specs.Answers.{completed_told, course_is};
+ghost use Rattle.crossing.specs.Waits.{flow_told};
 
 use crate::Told;
 use crate::codes::{
@@ -10,8 +11,9 @@ use crate::codes::{
     TOLD_UNFINISHED, YIELD,
 };
 use crate::tell::{Tell, told};
+use std::ops::ControlFlow;
 use wait::Act;
-use waiting::{Awaited, Completed, Course};
+use waiting::Completed;
 
 // The end of a wait.
 impl Tell for Completed {
@@ -50,51 +52,41 @@ impl Tell for Act {
 }
 
 // What a turn came to: what the host is to do, or an end.
-impl Tell for Awaited {
-    ghost use Rattle.wait.specs.declared.Act.TheVariants.{Sleep, SleepUnlessResumed, Yield, LookAgain};
-    ghost use Rattle.waiting.specs.declared.Completed.TheVariants.{Admitted, Shed, Impossible, Deadline};
-    ghost use Rattle.waiting.specs.declared.Awaited.TheVariants.{Next, Ends};
+// Ruled out: an end told with the number 0; an act told without its values.
+impl<E: Tell, A: Tell> Tell for ControlFlow<E, A> {
+    ghost use Rattle.std.specs.declared.ops.ControlFlow.TheVariants.{Continue, Break};
 
-    ghost told = { awaited_is };
+    ghost told = { flow_told E.told A.told };
 
     fn tell(self) -> Told {
         match self {
-            Awaited::Next(act) => act.tell(),
-            Awaited::Ends(end) => end.tell(),
+            ControlFlow::Continue(act) => act.tell(),
+            ControlFlow::Break(end) => end.tell(),
         }
     }
 
-    ghost three = { elim [
-      | Next (Sleep nanos) ↦ refl
-      | Next (SleepUnlessResumed nanos epoch) ↦ refl
-      | Next Yield ↦ refl
-      | Next LookAgain ↦ refl
-      | Ends (Admitted t) ↦ refl
-      | Ends (Shed d refund) ↦ refl
-      | Ends (Impossible cost capacity) ↦ refl
-      | Ends (Deadline back) ↦ refl
-    ] };
+    ghost three = { elim [ Continue act ↦ A.three act | Break end ↦ E.three end ] };
 }
 
-// What a run came to.
-impl Tell for Course {
+// What a run came to: an end, or its limit or its turns used up.
+// Ruled out: turns used up told as a deadline; an end told as turns used up.
+impl Tell for Option<Completed> {
     ghost use Rattle.waiting.specs.declared.Completed.TheVariants.{Admitted, Shed, Impossible, Deadline};
-    ghost use Rattle.waiting.specs.declared.Course.TheVariants.{Ends, Unfinished};
 
     ghost told = { course_is };
 
     fn tell(self) -> Told {
         match self {
-            Course::Ends(end) => end.tell(),
-            Course::Unfinished => told(TOLD_UNFINISHED, [0, 0, 0]),
+            Some(end) => end.tell(),
+            None => told(TOLD_UNFINISHED, [0, 0, 0]),
         }
     }
 
     ghost three = { elim [
-      | Ends (Admitted t) ↦ refl
-      | Ends (Shed d refund) ↦ refl
-      | Ends (Impossible cost capacity) ↦ refl
-      | Ends (Deadline back) ↦ refl
-      | Unfinished ↦ refl
+      | Some (Admitted t) ↦ refl
+      | Some (Shed d refund) ↦ refl
+      | Some (Impossible cost capacity) ↦ refl
+      | Some (Deadline back) ↦ refl
+      | None ↦ refl
     ] };
 }

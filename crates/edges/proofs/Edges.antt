@@ -3,7 +3,7 @@ use Prim.Native.Nat.{ℕ, ◌+◌, ◌^◌, ◌≤◌}
 use native.Mathlib.Omega.{arith}
 use mathlib.Core.Path.{◌≡◌, refl}
 use mathlib.Core.Bool.{true}
-use Rattle.std.proofs.Common.{Ok}
+use Rattle.std.proofs.Common.{Ok, Continue, Break}
 use Rattle.std.proofs.lemmas.Bool.Decides.{nat_tests}
 use lib.Count.{count_trailing_zeros}
 use lib.Ieee.{to_bits, is_nan, round, le, lt, eq, size, span, climb, units, odd, of_bits, of_fields}
@@ -13,11 +13,10 @@ use Rattle.trip.specs.Policy.{ratio_reached, tripped}
 use Rattle.breaker.specs.Rules.{admit, in_closed, settled, still_admits}
 use Rattle.breaker.specs.Orders.{sequence}
 use Rattle.wait.specs.declared.Wait.{Wait}
-use Rattle.wait.specs.declared.Turned.TheVariants.{Next, Ends}
 use Rattle.wait.specs.declared.Act.TheVariants.{Yield}
 use Rattle.wait.specs.declared.Ending.TheVariants.{Deadline}
 use Rattle.wait.specs.Turns.{ended_wait, new_wait, with_zeros, turn_in_bounds, wait_in_bounds, retries, retries_zero}
-use Rattle.wait.specs.Manner.{turned_as, turned}
+use Rattle.wait.specs.Manner.{and_wait, turned}
 use Rattle.keep.specs.Keep.{moves, keep}
 use Rattle.edges.specs.Edges.{retry_now, P2, P3, P4, P5, P6, P7, P9, P10, P11, P12, edges, All}
 
@@ -63,11 +62,11 @@ retried clock k = with_zeros k (new_wait clock true 0)
 
 module _ (clock : ℕ) (l : clock ≤ 2 ^ 62) where
   -- each of the first four yields
-  yields-on : (k : ℕ) → k ≤ 3 → turned keep (retried clock k) (retry_now clock) ≡ Ok (turned_as (Next Yield) (retried clock (k + 1)))
+  yields-on : (k : ℕ) → k ≤ 3 → turned keep (retried clock k) (retry_now clock) ≡ Ok (and_wait (Continue Yield) (retried clock (k + 1)))
   unfolding turned turn_in_bounds wait_in_bounds moves retries retries_zero
   yields-on k s = grind (arith, nat_tests)
 
-  deadline-5 : turned keep (retried clock 4) (retry_now clock) ≡ Ok (turned_as (Ends (Deadline 0)) ended_wait)
+  deadline-5 : turned keep (retried clock 4) (retry_now clock) ≡ Ok (and_wait (Break (Deadline 0)) ended_wait)
   unfolding turned turn_in_bounds wait_in_bounds moves retries retries_zero
   deadline-5 = grind (arith, nat_tests)
 

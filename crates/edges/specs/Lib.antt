@@ -1,2 +1,2 @@
--- P1 to P12 of document 01.
+-- P1 to P12.
 pub mod Edges

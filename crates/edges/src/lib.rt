@@ -1,2 +1,2 @@
-// "Edges to prove": P1 to P12 of document 01. No code: specs/Edges.antt has the list, proofs/Edges.antt its one proof.
+// "Edges to prove": P1 to P12. No code: specs/Edges.antt has the list, proofs/Edges.antt its one proof.
 #![tactic(auto)]

@@ -22,10 +22,11 @@ use error::Refusal;
 pub use previews::{preview_abort, preview_settle};
 pub use saving::{restore, save};
 use trip::CircuitBreakerBuilder;
-use wait::Observed;
-use waiting::{Awaited, Pending, Progress};
+use wait::{Observed, Progress};
+use waiting::{Awaited, Completed, Pending};
 
 // ---- calls that may change the record; one that is refused leaves all as it was
+// Each stores the record and hands on the answer: a function for the two would save one line in six of these calls, and none in the others.
 
 // Puts a fresh breaker into record and storage.
 // Ruled out: a record kept from before the build; a refused build that empties the storage.
@@ -286,6 +287,8 @@ pub fn finish_all(
 }
 
 // ---- calls of a wait; one that is refused leaves the breaker as it was
+// Each stores two records and hands on the answer, in three lines of its own: a function for the three would, with its contract, be as long
+// as all that it saves, two lines in each of four calls.
 
 // Admits a call, and begins its wait for the inner limiter.
 // Ruled out: a probe taken and not stored; a shed that ends the wait that was pending.
@@ -336,7 +339,7 @@ pub fn wait_run(
     limit: u64,
     now_ms: u64,
     capacity: u32,
-) -> Progress
+) -> Progress<Completed>
     ensures { pending_run (pending_after (course_told result.course) breaker.new list.now pending.new) result.taken
         ≡ Waits.run_pending turns.now limit now_ms capacity breaker.old list.now pending.old }
 {

@@ -1,7 +1,10 @@
 -- Elements folded in turn, in one slice or in blocks of it. Assumes nothing.
-use Rattle.std.proofs.Common.{◌≡◌, ℕ, ◌+◌, ◌-◌, ◌%◌, ◌^◌, ◌<◌, List, [], ◌∷◌, ◌++◌, length, get_or, take, drop, subst, sym, refl, arith, add-one, take-suc, take-append-drop, add-zero, pow_pos, lt-ltb, le-leb}
-use Rattle.std.specs.List.{FoldsTo}
-use Rattle.std.proofs.lemmas.Fn.{FoldsTo-push, chained_keeps}
+use Rattle.std.proofs.Common.{◌≡◌, ℕ, zero, suc, ◌+◌, ◌-◌, ◌*◌, ◌%◌, ◌^◌, ◌<◌, List, [], ◌∷◌, ◌++◌, length, get_or, take, drop, subst, sym, refl, arith, take-append-drop, add-zero, pow_pos, lt-ltb, le-leb}
+use Rattle.std.specs.List.{FoldsTo, concat}
+use Rattle.std.specs.Simd.{first_chunks}
+use Rattle.std.proofs.lemmas.List.{append_assoc, drop_more, drop-drop}
+use Rattle.std.proofs.Math.Nat.{suc-mul}
+use Rattle.std.proofs.lemmas.Fn.{chained_keeps}
 use mathlib.Core.Bool.{and-true}
 use lib.Bits.{bit_or}
 use Rattle.history.specs.Items.{all_below, sum_of}
@@ -12,18 +15,28 @@ module _ (R : ℕ → ℕ → ℕ → Type 0) where
   abbrev Folds : ℕ → List ℕ → ℕ → Type 0
   Folds p s q = FoldsTo (λ a x b. R a x b) p s q
 
-  pub folds-next : (p q u i : ℕ) (s : List ℕ) → i < length s → Folds p (take i s) q → R q (get_or s i 0) u → Folds p (take (i + 1) s) u
-  folds-next p q u i s h f r = rw (add-one, take-suc s i 0) (FoldsTo-push R p (take i s) q (get_or s i 0) u f r)
-
   folds-append : (p q u : ℕ) (xs ys : List ℕ) → Folds p xs q → Folds q ys u → Folds p (xs ++ ys) u
   folds-append p q u [] ys e f = subst (λ a. Folds a ys u) (sym e) f
   folds-append p q u (x ∷ xs) ys e f = (e.0, e.1, folds-append e.0 q u xs ys e.2 f)
+
+  -- what is folded of blocks, and then of what is behind them: one block more
+  pub folds-block : (p q u i : ℕ) (blocks : List (List ℕ)) (tail : List ℕ) → i < length blocks → Folds p (get_or blocks i []) q
+      → Folds q (concat (drop (i + 1) blocks) ++ tail) u → Folds p (concat (drop i blocks) ++ tail) u
+  folds-block p q u i blocks tail h f g =
+      rw (drop_more blocks i [] h, append_assoc) (folds-append p q u (get_or blocks i []) (concat (drop (i + 1) blocks) ++ tail) f g)
 
   -- s in two parts
   pub folds-parts : (p q u n : ℕ) (r s xs ys : List ℕ) → r ≡ s → xs ≡ take n r → ys ≡ drop n r → Folds p xs q → Folds q ys u → Folds p s u
   folds-parts p q u n r s xs ys e a b f g =
       let w : xs ++ ys ≡ s = rw (a, b, take-append-drop) e in
       rw w at (folds-append p q u xs ys f g)
+
+-- the blocks, and what is behind them
+pub blocks-whole : (n k : ℕ) (xs : List ℕ) → concat (first_chunks n k xs) ++ drop (k * n) xs ≡ xs
+blocks-whole n zero xs = let e : 0 * n ≡ 0 = omega arith in rw e refl
+blocks-whole n (suc k) xs =
+    let e : suc k * n ≡ n + k * n = omega (arith, suc-mul k n) in
+    rw (e, append_assoc, ← drop-drop (k * n) n xs, blocks-whole n k (drop n xs), take-append-drop) refl
 
 -- what a fold of R has made of the elements, where each step keeps it
 module _ (R : ℕ → ℕ → ℕ → Type 0) where

@@ -2,7 +2,7 @@
 --     replaced-held, clear-held, clear-sound   any kind
 --     outcome-sound, failures-held             Ratio
 --     time-sound, evict-sound                  Windowed
-use Rattle.std.proofs.Common.{◌≡◌, ℕ, ◌-◌, ◌%◌, ◌^◌, ◌<◌, ◌≤◌, true, false, eqb, leb, List, [], ◌∷◌, ◌++◌, length, drop, refl, ap, ◌∙◌, arith, length-append, length-drop, drop_of_length-le, length-take-le, lt-ltb, eq-eqb, le-leb, leb-false, if◌then◌else◌}
+use Rattle.std.proofs.Common.{◌≡◌, ℕ, ◌-◌, ◌%◌, ◌^◌, ◌<◌, ◌≤◌, true, false, eqb, leb, List, [], ◌∷◌, ◌++◌, length, drop, refl, ap, ◌∙◌, arith, length-append, length-drop, length-take-le, lt-ltb, eq-eqb, le-leb, leb-false, if◌then◌else◌}
 use Rattle.error.specs.Told.{tell}
 use Rattle.error.specs.declared.Refusal.TheVariants.{Full}
 use Rattle.history.specs.declared.Items.{Items}
@@ -90,8 +90,3 @@ module _ (w n first : ℕ) (s : List ℕ) (ok : sound_list (Outcomes w) n s ≡ 
 
   pub failures-held : item_sum (drop first (view n s)) % 2 ^ 64 ≡ failures (drop first (view n s))
   failures-held = omega (arith, sum-failures (drop first (view n s)) (below-drop 2 first (view n s) (sound→ (Outcomes w) n s ok).of_its_kind), failures-le)
-
--- all places are cleared, whatever they held
-pub clear-all : (s : List ℕ) → length s ≡ 4096 → cleared 4096 s ≡ held []
-unfolding cleared
-clear-all s p = simp (eq-eqb _ _ p, drop_of_length-le s {i = 4096} (omega arith))

@@ -1,4 +1,5 @@
 // The list of a breaker in lent storage: 4,096 places, oldest first from place 0, 0 past the length (the VecDeques of the Rust).
+// The length stands apart from its storage: it is a field of the record that C holds, and the storage is lent beside it.
 // It knows nothing of breakers. No function relies on a sound list: each says what it makes of any storage.
 // One that changes the list answers its new length, or a refusal that left every place as it was.
 #![tactic(auto)]
@@ -10,11 +11,11 @@ ghost use Rattle.history.specs.Change.{Left, left, laid, told, on_list, refuse, 
 
 use error::Refusal;
 
-// The places of the storage.
+// The places of the storage. It is a slice tested at each entry, and no array or type of its own, since C lends any length.
 pub const PLACES: usize = 4096;
 
 // As many items as there are places.
-pub const MOST_ITEMS: u32 = 4096;
+pub const MOST_ITEMS: u32 = PLACES as u32;
 
 // What the list of a breaker holds, by its policy.
 #[derive(Clone, Copy)]
@@ -32,11 +33,7 @@ fn in_turn<F: Fn(u64, u64) -> u64>(s: &[u64], start: u64, step: &F) -> u64
     requires { F.IsAlwaysCallable step.now }
     ensures { FoldsTo (λ a x b. F.post step.now a x b) start s.now result }
 {
-    let mut all = start;
-    for x in s {
-        all = step(all, *x);
-    }
-    all
+    s.iter().fold(start, |all, x| step(all, *x))
 }
 
 // The items from place `first` on folded in turn. From the next even place on they are read in pairs that no cache line divides, and
@@ -47,13 +44,13 @@ fn fold_from<F: Fn(u64, u64) -> u64>(list: &[u64], first: usize, step: F) -> u64
 {
     let from = first.min(list.len());
     let odd = (from % 2).min(list.len() - from);
-    let (front, mut rest) = list[from..].split_at(odd);
+    let (front, rest) = list[from..].split_at(odd);
+    let (blocks, tail) = rest.as_chunks::<32>();
     let mut all = in_turn(front, 0, &step);
-    while let Some((block, tail)) = rest.split_first_chunk::<32>() {
+    for block in blocks {
         all = in_turn(block, all, &step);
-        rest = tail;
     }
-    in_turn(rest, all, &step)
+    in_turn(tail, all, &step)
 }
 
 // The bits that any item from place `first` on has: below a power of two where every item is.
@@ -181,6 +178,7 @@ fn length_in(list: &[u64], len: u32) -> Result<usize, Refusal>
 
 // Drops so many of the oldest items.
 // Ruled out: one that leaves an old item in a place that fell free; one that drops the newest.
+#[tactic(auto, unfolding(crate::specs::Change::replaced))]
 pub fn drop_oldest(list: &mut [u64], len: u32, gone: u32) -> Result<u32, Refusal>
     ensures { left (told result) list.new ≡ replaced gone [] len list.old }
 {
@@ -192,6 +190,7 @@ pub fn drop_oldest(list: &mut [u64], len: u32, gone: u32) -> Result<u32, Refusal
 
 // Drops so many of the oldest items, and appends one. Where 4,096 would be left before it, nothing is done.
 // Ruled out: one that keeps what it dropped where it refuses; one that appends behind a place that fell free.
+#[tactic(auto, unfolding(crate::specs::Change::replaced))]
 pub fn turn_over(list: &mut [u64], len: u32, gone: u32, item: u64) -> Result<u32, Refusal>
     ensures { left (told result) list.new ≡ replaced gone (item ∷ []) len list.old }
 {
@@ -208,6 +207,7 @@ pub fn turn_over(list: &mut [u64], len: u32, gone: u32, item: u64) -> Result<u32
 
 // Empties the list.
 // Ruled out: one that leaves the newest item; one that answers a length other than 0.
+#[tactic(auto, unfolding(crate::specs::Change::cleared))]
 pub fn clear(list: &mut [u64], len: u32) -> Result<u32, Refusal>
     ensures { left (told result) list.new ≡ cleared len list.old }
 {

@@ -1,25 +1,22 @@
 -- Laws of the breaker that a header makes. Assumes nothing.
 use Rattle.std.proofs.Common.{if◌then◌else◌, Result, Ok, Err}
-use Prim.Native.Nat.{ℕ, ◌%◌, ◌<◌, min, max}
+use Prim.Native.Nat.{ℕ, min, max}
 use native.Mathlib.Omega.{arith}
 use mathlib.Core.Path.{◌≡◌, refl, sym, ap, ap₂, ◌∙◌}
 use mathlib.Core.Bool.{Bool, true, false}
 use mathlib.Core.List.{List, []}
 use lib.ListN.{length}
-use lib.Ieee.{Float, binary64, of_bits, is_nan, lt}
-use lib.Ieee.Bits.{nan_bits_is, nan_bits_above, of_bits-fits}
+use lib.Ieee.{binary64}
+use lib.Ieee.Bits.{of_bits-fits}
 use lib.Dec.{ltb}
-use borrow.Author.Tests.{eq-eqb, lt-ltb}
+use borrow.Author.Tests.{eq-eqb}
 use Rattle.error.specs.declared.Refusal.TheVariants.{Limit}
 use Rattle.error.specs.Told.{tell, refused}
 use Rattle.error.specs.declared.Refusal.{Refusal}
 use Rattle.error.proofs.OneToOne.{no-refusal, refused-one}
 use Rattle.history.specs.Items.{padded}
 use Rattle.trip.specs.declared.Config.{Config}
-use Rattle.trip.specs.declared.CircuitBreakerBuilder.{CircuitBreakerBuilder}
-use Rattle.trip.specs.declared.Trip.TheVariants as TripIs
-use Rattle.trip.specs.declared.Duration.{Duration}
-use Rattle.trip.specs.Settings.{one_ratio, clamped_ratio, built_of, settings_of, millis, of_millis}
+use Rattle.trip.specs.Settings.{built_of, settings_of, millis, of_millis}
 use Rattle.trip.proofs.Settings.{of-millis-time}
 use Rattle.breaker.specs.declared.Breaker.{Breaker}
 use Rattle.breaker.specs.Record.{state, stored, sound}
@@ -29,25 +26,7 @@ use Rattle.breaker.proofs.Built.{RatioFits, sound-built}
 use Rattle.lines.specs.declared.Header.{Header}
 use Rattle.lines.specs.declared.HeaderPolicy.{HeaderPolicy}
 use Rattle.lines.specs.declared.HeaderPolicy.TheVariants.{Consecutive, Ratio, Windowed}
-use Rattle.journal.specs.Replay.{trip_of, builder, builder_of}
-
--- ---- a NaN's ratio and 1.0 are normalised alike
-clamped-nan : (r : Float) → is_nan r ≡ true → clamped_ratio r ≡ one_ratio
-unfolding clamped_ratio
-clamped-nan r e = simp e
-
-pub clamped-one : clamped_ratio one_ratio ≡ one_ratio
-unfolding clamped_ratio is_nan lt
-clamped-one = refl
-
-pub nan-one : (b : ℕ) → 0x7ff0_0000_0000_0000 < b % 0x8000_0000_0000_0000 → clamped_ratio one_ratio ≡ clamped_ratio (of_bits binary64 b)
-nan-one b h = clamped-one ∙ sym (clamped-nan (of_bits binary64 b) (sym (nan_bits_is binary64 b) ∙ nan_bits_above binary64 b ∙ lt-ltb _ _ h))
-
--- what is built hangs on the normalised ratio alone
-pub built-ratio : (w m t q : ℕ) (d : Duration) (r r' : Float) → clamped_ratio r ≡ clamped_ratio r'
-    → built_of (builder (TripIs.Ratio w r m) d t q) ≡ built_of (builder (TripIs.Ratio w r' m) d t q)
-unfolding built_of
-built-ratio w m t q d r r' e = rw e
+use Rattle.journal.specs.Replay.{trip_of, builder_of}
 
 -- ---- a header is refused by number 2 alone: its times are whole milliseconds
 limit-alone : (x : Bool) (c : Config) (r : Refusal) → (if x then Err Limit else Ok c) ≡ Err r → r ≡ Limit
@@ -77,12 +56,12 @@ some_breaker = stored (record { kind = 0; limit = 0; ratio_bits = 0; min_calls =
 abbrev pub IsMade : Header → Breaker → List ℕ → Type 0
 IsMade h b s = (c : Config) × (built_of (builder_of h) ≡ Ok c) × (b.config ≡ c) × (state b s ≡ fresh) × (sound b s ≡ true)
 
-module _ (h : Header) (builder : CircuitBreakerBuilder) (b b' : Breaker) (s s' : List ℕ) (same : built_of builder ≡ built_of (builder_of h)) (n : length s ≡ 4096) where
-  put_is : (left : After) → left ≡ built builder b s → left ≡ put (built_of (builder_of h)) b s
+module _ (h : Header) (b b' : Breaker) (s s' : List ℕ) (n : length s ≡ 4096) where
+  put_is : (left : After) → left ≡ built (builder_of h) b s → left ≡ put (built_of (builder_of h)) b s
   unfolding built
-  put_is left e = rw (eq-eqb (length s) 4096 n, same) at e
+  put_is left e = rw (eq-eqb (length s) 4096 n) at e
 
-  pub build-made : after (tell 0 []) b' s' ≡ built builder b s → IsMade h b' s'
+  pub build-made : after (tell 0 []) b' s' ≡ built (builder_of h) b s → IsMade h b' s'
   build-made e = go (built_of (builder_of h)) refl (put_is (after (tell 0 []) b' s') e)
     where
       go : (x : Result Config Refusal) → built_of (builder_of h) ≡ x → after (tell 0 []) b' s' ≡ put x b s → IsMade h b' s'
@@ -92,7 +71,7 @@ module _ (h : Header) (builder : CircuitBreakerBuilder) (b b' : Breaker) (s s' :
           (c, m, rw p refl, ap₂ state p q ∙ state-stored c fresh, ap₂ sound p q ∙ sound-built (builder_of h) c (ratio-fits h.policy) m)
       go (Err r) m e = no-refusal r [] (ap (λ (a : After). a.told) e)
 
-  pub build-refused : (r : Refusal) → after (refused r) b' s' ≡ built builder b s → (built_of (builder_of h) ≡ Err r) × (s' ≡ s)
+  pub build-refused : (r : Refusal) → after (refused r) b' s' ≡ built (builder_of h) b s → (built_of (builder_of h) ≡ Err r) × (s' ≡ s)
   build-refused r e = go (built_of (builder_of h)) refl (put_is (after (refused r) b' s') e)
     where
       go : (x : Result Config Refusal) → built_of (builder_of h) ≡ x → after (refused r) b' s' ≡ put x b s → (built_of (builder_of h) ≡ Err r) × (s' ≡ s)

@@ -19,11 +19,11 @@ use Rattle.breaker.specs.declared.Breaker.{Breaker}
 use Rattle.breaker.specs.Record.{Settings, State, settings}
 use Rattle.lines.specs.declared.Call.{Call}
 use Rattle.lines.specs.declared.Header.{Header}
-use Rattle.lines.specs.Print.{print_decimal, decimal_in, print_line, print_call, reading_of, CallFits, print_header, HeaderFits}
+use Rattle.lines.specs.Print.{print_decimal, decimal_in, print_line, print_call, CallFits, print_header, HeaderFits}
 use Rattle.lines.specs.Reads.{NoCall, NoHeader}
-use Rattle.lines.proofs.CallLines.{same-call}
+use Rattle.lines.proofs.CallLines.{call-end, same-call}
 use Rattle.lines.proofs.HeaderLines.{same-header}
-use Rattle.journal.specs.Replay.{called, answer_line, malformed_line, builder_of, Replays, finished, call, malformed, Answers, headless, refused, headed, Journal, Kept, Replaying, ReadInto, ReplayingRead}
+use Rattle.journal.specs.Replay.{called, answer_line, malformed_line, builder_of, Replays, finished, call, malformed, Answers, headless, refused, headed, Journal, Replaying, ReadInto, ReplayingRead}
 use Rattle.journal.specs.Laid.{laid}
 use Rattle.journal.specs.Steps.{Ends}
 use Rattle.journal.proofs.Laid.{take-laid, drop-laid}
@@ -36,10 +36,10 @@ length-pos n = simp length-append (omega arith)
 
 pub call_long : (c : Call) (bs rest : List ℕ) → bs ≡ print_call c ++ rest → length rest + 4 ≤ length bs
 unfolding print_call
-call_long c bs rest e = rw e (simp length-append (omega (arith, length-pos (reading_of c))))
+call_long c bs rest e = rw e (simp length-append (omega (arith, length-pos c.reading)))
 
 pub not_call : NoCall []
-not_call c rest f e = omega (arith, call_long c [] rest e)
+not_call = call-end [] 0 (omega arith)
 
 -- ---- what is written
 pub written : (out out' : List ℕ) (end end' : ℕ) (xs : List ℕ) → end' ≡ end + length xs → out' ≡ laid end xs out → end' ≤ length out → take end' out' ≡ take end out ++ xs
@@ -68,16 +68,13 @@ module _ (more : Bool) (S : Settings) (st₀ : State) (input : List ℕ) where
   last out out' rest end end' line st xs r n l h so = rw (written out out' end end' xs n l h) (so xs st r)
 
 -- ---- the whole answer, by what was written
-module _ (more : Bool) (input places out out' : List ℕ) (end : ℕ) (enough : end ≤ length out) (same : length out' ≡ length out) where
-  pub answers-headless : NoHeader input → end ≡ 0 + length (malformed_line 1) → out' ≡ laid 0 (malformed_line 1) out → Answers more input places (take end out') places × Kept end out out'
-  answers-headless k e l =
-      (rw (written out out' 0 end (malformed_line 1) e l enough) (headless k), (omega arith, kept out out' out 0 end (malformed_line 1) e l enough refl))
+module _ (more : Bool) (input places out out' : List ℕ) (end : ℕ) (enough : end ≤ length out) where
+  pub answers-headless : NoHeader input → end ≡ 0 + length (malformed_line 1) → out' ≡ laid 0 (malformed_line 1) out → Answers more input places (take end out') places
+  answers-headless k e l = rw (written out out' 0 end (malformed_line 1) e l enough) (headless k)
 
   pub answers-refused : (places' : List ℕ) (h : Header) (rest : List ℕ) (r : Refusal) → HeaderFits h → input ≡ print_header h ++ rest → (built_of (builder_of h) ≡ Err r) × (places' ≡ places)
-      → end ≡ 0 + length (print_line 69 (number_of r ∷ [])) → out' ≡ laid 0 (print_line 69 (number_of r ∷ [])) out → Answers more input places (take end out') places' × Kept end out out'
-  answers-refused places' h rest r f i (b, s) e l =
-      let xs = print_line 69 (number_of r ∷ []) in
-      (rw (s, written out out' 0 end xs e l enough) (refused h rest r f i b), (omega arith, kept out out' out 0 end xs e l enough refl))
+      → end ≡ 0 + length (print_line 69 (number_of r ∷ [])) → out' ≡ laid 0 (print_line 69 (number_of r ∷ [])) out → Answers more input places (take end out') places'
+  answers-refused places' h rest r f i (b, s) e l = rw (s, written out out' 0 end (print_line 69 (number_of r ∷ [])) e l enough) (refused h rest r f i b)
 
 pub answers-headed : (more : Bool) (input places output left : List ℕ) (h : Header) (rest : List ℕ) (b : Breaker) (s : List ℕ) → HeaderFits h → input ≡ print_header h ++ rest
     → IsMade h b s → Ends more b s rest output left → Answers more input places output left

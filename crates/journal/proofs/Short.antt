@@ -17,9 +17,10 @@ use Rattle.breaker.specs.Calls.{answered, admission}
 use Rattle.breaker.proofs.Cases.{admit-cases, settled-cases, failure-cases}
 use Rattle.breaker.proofs.Record.{sound→, shared→}
 use Rattle.lines.specs.declared.Call.{Call}
-use Rattle.lines.specs.declared.Call.TheVariants.{Admit, Success, Failure, Abort, Reset}
+use Rattle.lines.specs.declared.Order.{Order}
+use Rattle.lines.specs.declared.Order.TheVariants.{Admit, Success, Failure, Abort, Reset}
 use Rattle.lines.specs.Print.{print_decimal, print_fields}
-use Rattle.journal.specs.Replay.{ticket_of, called, five, answer_line}
+use Rattle.journal.specs.Replay.{ordered, called, five, answer_line}
 use Rattle.journal.proofs.Laid.{length-decimal}
 
 -- the fields that a line shows are within their widths, and the state is a digit
@@ -81,12 +82,15 @@ closed-short S reading false st = failure-cases Short S reading st (full-short s
 settled-short : (S : Settings) (reading : ℕ) (t : Ticket) (good : Bool) (st : State) → Short (settled S reading t good st)
 settled-short S reading t good st = settled-cases Short S reading st t good (done-short st) (λ h. done-short _) (λ c. closed-short S reading good st)
 
+order-short : (o : Order) (t : ℕ) (S : Settings) (st : State) → Short (ordered o t S st)
+order-short Admit t S st = admit-short t S st
+order-short (Success k) t S st = settled-short S t k true st
+order-short (Failure k) t S st = settled-short S t k false st
+order-short (Abort k) t S st = done-short _
+order-short Reset t S st = done-short _
+
 pub called-short : (c : Call) (S : Settings) (st : State) → Short (called c S st)
-called-short (Admit t) S st = admit-short t S st
-called-short (Success t g p) S st = settled-short S t (ticket_of g p) true st
-called-short (Failure t g p) S st = settled-short S t (ticket_of g p) false st
-called-short (Abort t g p) S st = done-short _
-called-short (Reset t) S st = done-short _
+called-short c = order-short c.order c.reading
 
 -- what a step answers
 pub step-short : (c : Call) (S : Settings) (st st' : State) (t : Told) → st' ≡ (called c S st).after → t ≡ (called c S st).told → Shown st' → length (answer_line t st') ≤ 91

@@ -12,12 +12,12 @@ use Rattle.trip.specs.declared.Duration.{Duration}
 use Rattle.trip.specs.declared.Trip.{Trip}
 use Rattle.trip.specs.declared.Trip.TheVariants as TripIs
 use Rattle.trip.specs.Settings.{built_of, of_millis}
-use Rattle.breaker.specs.declared.Ticket.{Ticket}
 use Rattle.breaker.specs.Record.{Settings, State, settings}
 use Rattle.breaker.specs.Rules.{Outcome, reset}
 use Rattle.breaker.specs.Calls.{fresh, admission, settle, abort_as}
 use Rattle.lines.specs.declared.Call.{Call}
-use Rattle.lines.specs.declared.Call.TheVariants.{Admit, Success, Failure, Abort, Reset}
+use Rattle.lines.specs.declared.Order.{Order}
+use Rattle.lines.specs.declared.Order.TheVariants.{Admit, Success, Failure, Abort, Reset}
 use Rattle.lines.specs.declared.Header.{Header}
 use Rattle.lines.specs.declared.HeaderPolicy.{HeaderPolicy}
 use Rattle.lines.specs.declared.HeaderPolicy.TheVariants.{Consecutive, Ratio, Windowed}
@@ -28,16 +28,16 @@ use Rattle.journal.specs.declared.NotReplayed.TheVariants as NotReplayedIs
 
 -- ---- a call of the journal, and the line that answers it
 
-abbrev pub ticket_of : ℕ → Bool → Ticket
-ticket_of g p = record { generation = g; probe = p }
-
 -- "`A` admit, `S`, `F`, `X` (success, failure, abort …) or `Z` reset"
+abbrev pub ordered : Order → ℕ → Settings → State → Outcome
+ordered Admit t s st = admission false t s st
+ordered (Success k) t s st = settle t k true s st
+ordered (Failure k) t s st = settle t k false s st
+ordered (Abort k) t s st = abort_as k false s st
+ordered Reset t s st = reset st
+
 abbrev pub called : Call → Settings → State → Outcome
-called (Admit t) s st = admission false t s st
-called (Success t g p) s st = settle t (ticket_of g p) true s st
-called (Failure t g p) s st = settle t (ticket_of g p) false s st
-called (Abort t g p) s st = abort_as (ticket_of g p) false s st
-called (Reset t) s st = reset st
+called c = ordered c.order c.reading
 
 -- "then state, generation, inflight, successes, open-until"
 abbrev pub five : State → List ℕ

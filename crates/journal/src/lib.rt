@@ -8,12 +8,11 @@ mod run;
 mod step;
 mod write;
 
-use breaker::{Breaker, Delay, Ticket};
 use error::Refusal;
 use history::PLACES;
 use run::replay_all;
 
-// The bytes that a journal may have.
+// The bytes that a journal may have. (A limit of its own: no size of a record, a store or a block hangs on it.)
 const LIMIT: usize = 65536;
 
 // The bytes of it to read: one past the limit tells that it is longer.
@@ -27,21 +26,6 @@ pub const ROOM: usize = 23 * LIMIT + 149;
 pub enum NotReplayed {
     TooSmall,
     Refused(Refusal),
-}
-
-// What a call is answered where it is not refused: a ticket, a delay, or nothing.
-#[derive(Clone, Copy)]
-enum Reply {
-    Granted(Ticket),
-    Shed(Delay),
-    Done,
-}
-
-// What a call is answered, and the record after it.
-#[derive(Clone, Copy)]
-struct Stepped {
-    answer: Result<Reply, Refusal>,
-    breaker: Breaker,
 }
 
 // The answer to the journal `input`, into `out`; tells its length.
@@ -61,7 +45,7 @@ pub fn replay(input: &[u8], list: &mut [u64], out: &mut [u8]) -> Result<usize, N
 }
 
 // The answer to a journal of any length, of which n bytes were read into `input`: all, or as many as it holds. There is always room.
-// (n beside the buffer: the n bytes alone would not show whether the buffer was full.)
+// (An array with n beside it: its type holds a program to a buffer of READ bytes.)
 // Ruled out: an input of 65,536 bytes, where a longer journal looks like one that ends there; an output one byte smaller.
 pub fn replay_read(
     input: &[u8; READ],

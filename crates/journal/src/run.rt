@@ -10,6 +10,8 @@ use crate::write::{write_answer, write_line, write_malformed};
 use breaker::Breaker;
 
 // The answers to the calls, and the line of the first that is malformed; `more` says that bytes past the limit follow.
+// (A loop over what is left, and no iterator: what is left after the last call is looked at. Record and list stay apart here and in `step`: a
+// struct of a sound breaker would have to lend the list.)
 fn replay_calls(
     s: &[u8],
     more: bool,

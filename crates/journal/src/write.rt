@@ -1,16 +1,13 @@
 // Numbers and lines written into a buffer. Each writer answers the place after what it wrote.
 // (Buffer and place side by side: of a struct with both, each contract would also have to say that it keeps the same buffer.)
 ghost use Rattle.std.specs.Prelude.{◌≡◌, ◌+◌, ◌*◌, ◌≤◌, ◌++◌, [], length};
-ghost use Rattle.error.specs.Told.{told_by};
 ghost use Rattle.breaker.specs.Record.{state};
 ghost use Rattle.lines.specs.Print.{print_decimal, print_fields, print_line};
 ghost use Rattle.journal.specs.Replay.{five, answer_line, malformed_line};
 ghost use Rattle.journal.specs.Laid.{laid};
-ghost use Rattle.journal.specs.Steps.{reply_told};
+ghost use Rattle.journal.specs.Steps.{step_told};
 
-use crate::Reply;
-use breaker::Breaker;
-use error::Refusal;
+use breaker::{Breaker, NotAdmitted, Ticket};
 
 // n in decimal. (Not by `write!`, which may fail for want of room: here there is room.)
 fn write_decimal(out: &mut [u8], at: usize, n: u64) -> usize
@@ -29,9 +26,10 @@ fn write_decimal(out: &mut [u8], at: usize, n: u64) -> usize
 
 // A space and a decimal for each value.
 fn write_fields(out: &mut [u8], at: usize, values: &[u64]) -> usize
-    requires { at + length (print_fields values.now) ≤ length out.old }
+    requires { at + 21 * length values.now ≤ length out.old }
     ensures value { result ≡ at + length (print_fields values.now) }
     ensures out_after { out.new ≡ laid at (print_fields values.now) out.old }
+    ensures upper_bound { result ≤ at + 21 * length values.now }
 {
     let mut next = at;
     for value in values {
@@ -98,24 +96,20 @@ fn write_state(out: &mut [u8], at: usize, letter: u8, own: &[u64], breaker: Brea
 pub(crate) fn write_answer(
     out: &mut [u8],
     at: usize,
-    answer: Result<Reply, Refusal>,
+    answer: Result<Option<Ticket>, NotAdmitted>,
     breaker: Breaker,
 ) -> usize
     requires { at + 149 ≤ length out.old }
-    ensures value { result ≡ at + length (answer_line (told_by reply_told answer) (state breaker [])) }
-    ensures out_after { out.new ≡ laid at (answer_line (told_by reply_told answer) (state breaker [])) out.old }
+    ensures value { result ≡ at + length (answer_line (step_told answer) (state breaker [])) }
+    ensures out_after { out.new ≡ laid at (answer_line (step_told answer) (state breaker [])) out.old }
     ensures upper_bound { result ≤ at + 149 }
 {
     match answer {
-        Ok(Reply::Granted(t)) => write_state(
-            out,
-            at,
-            b'G',
-            &[t.generation, u64::from(t.probe)],
-            breaker,
-        ),
-        Ok(Reply::Shed(d)) => write_state(out, at, b'B', &[d.ms], breaker),
-        Ok(Reply::Done) => write_state(out, at, b'N', &[], breaker),
-        Err(r) => write_state(out, at, b'E', &[u64::from(r.number())], breaker),
+        Ok(Some(t)) => write_state(out, at, b'G', &[t.generation, u64::from(t.probe)], breaker),
+        Ok(None) => write_state(out, at, b'N', &[], breaker),
+        Err(NotAdmitted::Shed(d)) => write_state(out, at, b'B', &[d.ms], breaker),
+        Err(NotAdmitted::Refused(r)) => {
+            write_state(out, at, b'E', &[u64::from(r.number())], breaker)
+        }
     }
 }

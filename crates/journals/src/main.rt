@@ -7,13 +7,10 @@ ghost use Rattle.std.specs.Prelude.{◌<◌, IfSome, length};
 
 use history::PLACES;
 use journal::ROOM;
+use std::io;
+use std::io::Read;
 
-// Room for the container. One that does not fit is cut, and what is left of its last journal counts as one that differs.
-// (Functions of their own: where a slice is cut, a proof with so many zeros written out runs out of stack.)
-fn input_buffer() -> [u8; 2700000] {
-    [0; 2700000]
-}
-
+// (A function of its own: where a slice is cut, a proof with so many zeros written out runs out of stack.)
 fn output_buffer() -> [u8; ROOM] {
     [0; ROOM]
 }
@@ -53,7 +50,8 @@ fn agrees(case: Case, list: &mut [u64], out: &mut [u8]) -> bool {
 }
 
 // Replays all of a container. What is no journal counts as one that differs.
-fn replay_all(rt: &HostRuntime, s: &[u8], list: &mut [u64], out: &mut [u8]) {
+// (A loop over what is left, and no iterator: what is left after the last journal is looked at.)
+fn replay_all(rt: &impl Print, s: &[u8], list: &mut [u64], out: &mut [u8]) -> io::Result<()> {
     let mut rest = s;
     let mut journals: u64 = 0;
     let mut differ: u64 = 0;
@@ -61,22 +59,22 @@ fn replay_all(rt: &HostRuntime, s: &[u8], list: &mut [u64], out: &mut [u8]) {
         journals += 1;
         if !agrees(case, list, out) {
             differ += 1;
-            let _ = println!(rt; "difference in journal {journals}");
+            println!(rt; "difference in journal {journals}")?;
         }
         rest = after;
     }
     if !rest.is_empty() {
         differ += 1;
-        let _ = println!(rt; "no journal after {journals}");
+        println!(rt; "no journal after {journals}")?;
     }
-    let _ = println!(rt; "journals {journals}");
-    let _ = println!(rt; "differ {differ}");
+    println!(rt; "journals {journals}")?;
+    println!(rt; "differ {differ}")
 }
 
-fn main(rt: HostRuntime) {
-    let mut input = input_buffer();
-    let n = input::read_full(&mut rt.stdin(), &mut input);
+fn main(rt: HostRuntime) -> io::Result<()> {
+    let mut input = Vec::new(rt.alloc());
+    rt.stdin().read_to_end(&mut input)?;
     let mut list = [0; PLACES];
     let mut out = output_buffer();
-    replay_all(&rt, &input[..n], &mut list, &mut out);
+    replay_all(&rt, &input, &mut list, &mut out)
 }

@@ -7,10 +7,9 @@ use Rattle.wait.specs.declared.Wait.{Wait}
 use Rattle.wait.specs.declared.Observed.{Observed}
 use Rattle.wait.specs.declared.Move.{Move}
 use Rattle.wait.specs.declared.Move.TheVariants.{Goes, Ends}
-use Rattle.wait.specs.declared.Running.{Running}
 use Rattle.wait.specs.Turns.{time_in_bounds, new_wait, turn_in_bounds, wait_in_bounds, naps, retries_zero, retries}
 use Rattle.wait.specs.Manner.{Manner}
-use Rattle.wait.specs.Run.{uncounted, onward, steps}
+use Rattle.wait.specs.Run.{Running, uncounted, onward, steps}
 use Rattle.keep.specs.Keep.{holding, checks, grants, moves, keep}
 use Rattle.wait.proofs.Walks.{in-order-cases}
 

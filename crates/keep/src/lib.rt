@@ -2,6 +2,8 @@
 #![tactic(auto)]
 
 mod calls;
+mod manner;
 mod moves;
 
 pub use calls::{drop_wait, run, turn};
+pub use manner::Keep;

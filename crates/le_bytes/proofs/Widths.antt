@@ -184,3 +184,6 @@ module _ (at w : ℕ) (vs s : List ℕ) where
 
   pub put-items-in : w ≤ 8 → at + length vs * w ≤ length s → written at (encoded (replicate (length vs) w) vs) s ≡ put_items at w vs s
   put-items-in l h = simp (le-leb w 8 l) (put_in at (encoded (replicate (length vs) w) vs) s (omega (arith, length-items)))
+
+-- how long what is written is, and that numbers are read of their bytes alone
+pub ruleset sizes = (length-bytes, length-encoded-same, decoded-part)

@@ -1,10 +1,10 @@
-// Many bytes at once: numbers of one width, a copy, zeros.
+// Many bytes at once: numbers of one width, a copy.
 ghost use Rattle.std.specs.Prelude.{◌≡◌, ◌*◌, ◌≤◌, length, replicate};
 ghost use Rattle.le_bytes.specs.Bytes.{encoded, decoded, put_at, put_items, items_at};
 
 use crate::numbers::{end_within, read, write};
 
-// By what is left, since chunks of width 0 are none.
+// By what is left: a width of 0 is allowed, and `chunks_exact` takes none.
 fn read_items(s: &[u8], width: usize, out: &mut [u64])
     requires { (width ≤ 8) × (length s.now ≡ length out.old * width) }
     ensures { out.new ≡ decoded (replicate (length out.old) width) s.now }
@@ -17,7 +17,7 @@ fn read_items(s: &[u8], width: usize, out: &mut [u64])
     }
 }
 
-// By place, since nothing is known of what lent chunks end as.
+// By place: std does not say what a slice ends as once its chunks were lent.
 fn write_items(out: &mut [u8], width: usize, values: &[u64])
     requires { length out.old ≡ length values.now * width }
     ensures { out.new ≡ encoded (replicate (length values.now) width) values.now }
@@ -30,6 +30,7 @@ fn write_items(out: &mut [u8], width: usize, values: &[u64])
 
 // As many numbers of `width` bytes at `at` as `out` holds.
 // Ruled out: a number that begins in the one before; one left out at the end.
+#[tactic(auto, using(crate::proofs::Widths::sizes))]
 pub fn items_at(s: &[u8], at: usize, width: usize, out: &mut [u64])
     ensures { out.new ≡ items_at at width out.old s.now }
 {
@@ -42,6 +43,7 @@ pub fn items_at(s: &[u8], at: usize, width: usize, out: &mut [u64])
 
 // Puts numbers of `width` bytes at `at`.
 // Ruled out: a byte past them that is cleared; the last number left out.
+#[tactic(auto, using(crate::proofs::Widths::sizes))]
 pub fn put_items(out: &mut [u8], at: usize, width: usize, values: &[u64])
     ensures { out.new ≡ put_items at width values.now out.old }
 {
@@ -60,12 +62,4 @@ pub fn copy(out: &mut [u8], at: usize, from: &[u8])
     if let Some(end) = end_within(at, from.len(), out.len()) {
         out[at..end].copy_from_slice(from);
     }
-}
-
-// Writes 0 to every byte.
-// Ruled out: one that leaves the first; one that leaves the last.
-pub fn zero(s: &mut [u8])
-    ensures { s.new ≡ replicate (length s.old) 0 }
-{
-    s.fill(0);
 }

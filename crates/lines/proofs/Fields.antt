@@ -1,6 +1,8 @@
 -- Laws of the fields: what is printed is taken again, and what is taken was printed. Assumes nothing.
 use Rattle.std.proofs.Common.{◌≡◌, ℕ, zero, suc, ◌^◌, ◌≤◌, ◌<◌, Bool, true, false, ltb, leb, eqb, if◌then◌else◌, List, [], ◌∷◌, ◌++◌, append_assoc, Some, None, refl, sym, ap, ◌∙◌, arith, lt-ltb, ltb-true, leb-true}
 use Rattle.error.specs.Choice.{bit}
+use Rattle.breaker.specs.declared.Ticket.{Ticket}
+use Rattle.breaker.specs.Answers.{ticket_values}
 use Rattle.lines.specs.Print.{print_decimal, print_hex16, print_fields, AllFit}
 use Rattle.lines.specs.Take.{after, take_decimal, take_hex, take_field, take_narrow, take_bits, take_ticket}
 use Rattle.lines.proofs.After.{bound-back, tested-back, after-back}
@@ -19,25 +21,39 @@ pub bits-there : (v : ℕ) (rest : List ℕ) → v < 2 ^ 64 → take_bits (32 �
 unfolding take_bits after
 bits-there v rest h = hex16-there v rest h
 
+-- what follows a field begins with no digit
+stops-rest : (vs rest : List ℕ) → stops rest ≡ true → stops (print_fields vs ++ rest) ≡ true
+unfolding print_fields
+stops-rest [] rest e = e
+stops-rest (v ∷ vs) rest e = refl
+
+-- of fields one after another the first is taken, and the rest is there
+pub first-there : (v : ℕ) (vs rest : List ℕ) → v < 2 ^ 64 → stops rest ≡ true → take_field (print_fields (v ∷ vs) ++ rest) ≡ Some (v, print_fields vs ++ rest)
+unfolding print_fields
+first-there v vs rest h e = rw append_assoc (field-there v (print_fields vs ++ rest) h (stops-rest vs rest e))
+
 -- a ticket's fields with what follows them
 pub two-fields : (x y : ℕ) (rest : List ℕ) → print_fields (x ∷ y ∷ []) ++ rest ≡ 32 ∷ (print_decimal x ++ (32 ∷ (print_decimal y ++ rest)))
 unfolding print_fields
 two-fields x y rest = simp append_assoc
 
-pub ticket-there : (g : ℕ) (p : Bool) (rest : List ℕ) → g < 2 ^ 64 → stops rest ≡ true → take_ticket (print_fields (g ∷ bit p ∷ []) ++ rest) ≡ Some ((g, p), rest)
-unfolding take_ticket
-ticket-there g p rest h e = rw (two-fields g (bit p) rest, field-there g (32 ∷ (print_decimal (bit p) ++ rest)) h refl, field-there (bit p) rest (small p) e) (flag p)
+pub ticket-there : (k : Ticket) (rest : List ℕ) → k.generation < 2 ^ 64 → stops rest ≡ true → take_ticket (print_fields (ticket_values k) ++ rest) ≡ Some (k, rest)
+unfolding take_ticket print_fields
+ticket-there k rest h e =
+    let g = k.generation in
+    let p = k.probe in
+    rw (first-there g (bit p ∷ []) rest h e, first-there (bit p) [] rest (small p) e) (flag g p)
   where
     small : (p : Bool) → bit p < 2 ^ 64
     small true = omega arith
     small false = omega arith
 
-    taken : Bool → (ℕ × Bool) × List ℕ
-    taken p = ((g, eqb (bit p) 1), rest)
+    with : ℕ → Bool → Ticket × List ℕ
+    with g p = (record { generation = g; probe = p }, rest)
 
-    flag : (p : Bool) → (if leb (bit p) 1 then Some (taken p) else None) ≡ Some ((g, p), rest)
-    flag true = refl
-    flag false = refl
+    flag : (g : ℕ) (p : Bool) → (if leb (bit p) 1 then Some (with g (eqb (bit p) 1)) else None) ≡ Some (with g p)
+    flag g true = refl
+    flag g false = refl
 
 -- ---- back
 pub field_back : (bs : List ℕ) (v : ℕ) (rest : List ℕ) → take_field bs ≡ Some (v, rest) → (v < 2 ^ 64) × (bs ≡ 32 ∷ (print_decimal v ++ rest))
@@ -61,20 +77,20 @@ bits-back bs v rest e =
     let n = hex16-back a.0 v rest a.2 in
     (n.0, cc (after-back 32 bs a.0 a.1, n.1))
 
-is-bit : (n : ℕ) → n ≤ 1 → bit (eqb n 1) ≡ n
+pub is-bit : (n : ℕ) → n ≤ 1 → bit (eqb n 1) ≡ n
 is-bit zero h = refl
 is-bit (suc zero) h = refl
 is-bit (suc (suc n)) h = absurd (omega arith)
 
-pub ticket-back : (bs : List ℕ) (g : ℕ) (p : Bool) (rest : List ℕ) → take_ticket bs ≡ Some ((g, p), rest) → AllFit (g ∷ bit p ∷ []) × (bs ≡ print_fields (g ∷ bit p ∷ []) ++ rest)
+pub ticket-back : (bs : List ℕ) (k : Ticket) (rest : List ℕ) → take_ticket bs ≡ Some (k, rest) → AllFit (ticket_values k) × (bs ≡ print_fields (ticket_values k) ++ rest)
 unfolding take_ticket
-ticket-back bs g p rest e =
-    let a = bound-back (take_field bs) _ ((g, p), rest) e in
-    let b = bound-back (take_field a.0.1) _ ((g, p), rest) a.2 in
-    let t = tested-back (leb b.0.0 1) ((a.0.0, eqb b.0.0 1), b.0.1) ((g, p), rest) b.2 in
+ticket-back bs k rest e =
+    let a = bound-back (take_field bs) _ (k, rest) e in
+    let b = bound-back (take_field a.0.1) _ (k, rest) a.2 in
+    let t = tested-back (leb b.0.0 1) (record { generation = a.0.0; probe = eqb b.0.0 1 }, b.0.1) (k, rest) b.2 in
     let f = field_back bs a.0.0 a.0.1 a.1 in
     let h = field_back a.0.1 b.0.0 b.0.1 b.1 in
-    let k : a.0.0 ≡ g = ap (λ (x : (ℕ × Bool) × List ℕ). x.0.0) t.1 in
-    let m : b.0.0 ≡ bit p = sym (is-bit b.0.0 (leb-true b.0.0 1 t.0)) ∙ ap (λ (x : (ℕ × Bool) × List ℕ). bit x.0.1) t.1 in
-    let r : b.0.1 ≡ rest = ap (λ (x : (ℕ × Bool) × List ℕ). x.1) t.1 in
-    ((omega (arith, f.0), (omega (arith, h.0), tt)), rw (two-fields g (bit p) rest) (cc (f.1, h.1, k, m, r)))
+    let q : a.0.0 ≡ k.generation = ap (λ (x : Ticket × List ℕ). x.0.generation) t.1 in
+    let m : b.0.0 ≡ bit k.probe = sym (is-bit b.0.0 (leb-true b.0.0 1 t.0)) ∙ ap (λ (x : Ticket × List ℕ). bit x.0.probe) t.1 in
+    let r : b.0.1 ≡ rest = ap (λ (x : Ticket × List ℕ). x.1) t.1 in
+    ((omega (arith, f.0), (omega (arith, h.0), tt)), rw (two-fields k.generation (bit k.probe) rest) (cc (f.1, h.1, q, m, r)))

@@ -1,9 +1,10 @@
 -- Laws of the header's line: what is printed is taken again, and what is taken was printed. Assumes nothing.
-use Rattle.std.proofs.Common.{◌≡◌, ℕ, ◌^◌, ◌<◌, true, eqb, List, [], ◌∷◌, ◌++◌, append_assoc, Some, None, inl, inr, refl, sym, subst, eqb-true}
+use Rattle.std.proofs.Common.{◌≡◌, ℕ, ◌^◌, ◌<◌, true, eqb, List, [], ◌∷◌, ◌++◌, append_assoc, Some, None, inl, inr, refl, sym, subst, eqb-true, length, drop, ◌≤◌}
 use Rattle.std.proofs.lemmas.Option.{some_pair_parts}
+use Rattle.std.proofs.lemmas.List.{drop_all}
 use Rattle.lines.specs.Print.{print_decimal, print_hex16, print_fields, print_policy, print_header, PolicyFits, HeaderFits}
 use Rattle.lines.specs.Take.{after, take_field, take_narrow, take_bits, take_consecutive, take_ratio, take_windowed, take_policy, take_header}
-use Rattle.lines.specs.Reads.{Read, HeaderRead}
+use Rattle.lines.specs.Reads.{Read, NoHeader, HeaderRead}
 use Rattle.lines.specs.declared.Header.{Header}
 use Rattle.lines.specs.declared.HeaderPolicy.{HeaderPolicy}
 use Rattle.lines.specs.declared.HeaderPolicy.TheVariants.{Consecutive, Ratio, Windowed}
@@ -110,6 +111,11 @@ header-back bs h rest e =
 pub header_read : (s : List ℕ) (r : Read Header) → r ≡ take_header s → HeaderRead s r
 header_read s (Some (h, rest)) e = header-back s h rest (sym e)
 header_read s None e = λ h rest f q. let t = header-there h rest f in cc
+
+-- at the end, and at a place past it, stands none
+pub header-end : (s : List ℕ) (at : ℕ) → length s ≤ at → NoHeader (drop at s)
+unfolding take_header take_policy
+header-end s at h d rest f e = let x = drop_all at s h in let t = header-there d rest f in let z : take_header [] ≡ None = refl in cc
 
 -- bytes begin with one header's line at most
 pub same-header : (c d : Header) (x y : List ℕ) → HeaderFits c → HeaderFits d → print_header c ++ x ≡ print_header d ++ y → (c ≡ d) × (x ≡ y)

@@ -2,5 +2,6 @@
 pub mod After
 pub mod Numbers
 pub mod Fields
+pub mod Limits
 pub mod CallLines
 pub mod HeaderLines

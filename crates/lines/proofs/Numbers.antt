@@ -5,6 +5,7 @@ use Rattle.std.proofs.lemmas.Option.{some_pair_parts}
 use Rattle.std.proofs.lemmas.Bool.Decides.{nat_tests}
 use native.Mathlib.Nat.{zero-add, add-zero, pow-suc, pow-le-pow_right}
 use lib.Seq.{drop-cons}
+use Rattle.lines.specs.Reads.{Read}
 use Rattle.lines.specs.Print.{decimal_in, print_decimal, glyph, hex_in, print_hex16}
 use Rattle.lines.proofs.After.{bound-back}
 use Rattle.lines.specs.Take.{is_decimal, take_digits, take_decimal, hex_digit, take_hex}
@@ -47,48 +48,72 @@ by_digits P small more n = go (suc n) n (omega arith)
         pick false e ih = more m (ltb-false m 10 e) (ih (ltb-false m 10 e))
 
 -- ---- decimals, there and back
+-- the readers of a decimal below any bound; take_digits and take_decimal are those below 2 ^ 64
+unfoldable pub digits_below : ℕ → ℕ → List ℕ → Read ℕ
+digits_below m v [] = Some (v, [])
+digits_below m v (b ∷ bs) =
+    if is_decimal b then (if ltb (v * 10 + (b - 48)) m then digits_below m (v * 10 + (b - 48)) bs else None)
+    else Some (v, b ∷ bs)
+
+unfoldable pub decimal_below : ℕ → List ℕ → Read ℕ
+decimal_below m [] = None
+decimal_below m (b ∷ bs) = if eqb b 48 then Some (0, bs) else if is_decimal b then digits_below m 0 (b ∷ bs) else None
+
+digits-64 : (v : ℕ) (bs : List ℕ) → take_digits v bs ≡ digits_below (2 ^ 64) v bs
+unfolding take_digits digits_below
+digits-64 v [] = refl
+digits-64 v (b ∷ bs) = rw (digits-64 (v * 10 + (b - 48)) bs)
+
+pub decimal-64 : (bs : List ℕ) → take_decimal bs ≡ decimal_below (2 ^ 64) bs
+unfolding take_decimal decimal_below
+decimal-64 [] = refl
+decimal-64 (b ∷ bs) = rw (digits-64 0 (b ∷ bs))
+
 -- one digit more
-digit-there : (v d : ℕ) (rest : List ℕ) → d < 10 → v * 10 + d < 2 ^ 64 → take_digits v ((48 + d) ∷ rest) ≡ take_digits (v * 10 + d) rest
-unfolding take_digits
-digit-there v d rest h l =
+digit-there : (m v d : ℕ) (rest : List ℕ) → d < 10 → v * 10 + d < m → digits_below m v ((48 + d) ∷ rest) ≡ digits_below m (v * 10 + d) rest
+unfolding digits_below
+digit-there m v d rest h l =
     let t : is_decimal (48 + d) ≡ true = grind (arith, nat_tests) in
     let e : 48 + d - 48 ≡ d = omega arith in
-    rw (t, e, lt-ltb (v * 10 + d) (2 ^ 64) l)
+    rw (t, e, lt-ltb (v * 10 + d) m l)
 
 -- the bytes of v take the reader to v
-decimal-there : (rest : List ℕ) (v : ℕ) → 0 < v → v < 2 ^ 64 → take_decimal (print_decimal v ++ rest) ≡ take_digits v rest
-unfolding take_decimal
-decimal-there rest v = by_digits (λ v. (rest : List ℕ) → 0 < v → v < 2 ^ 64 → take_decimal (print_decimal v ++ rest) ≡ take_digits v rest) small more v rest
+decimal-there : (m : ℕ) (rest : List ℕ) (v : ℕ) → 0 < v → v < m → decimal_below m (print_decimal v ++ rest) ≡ digits_below m v rest
+unfolding decimal_below
+decimal-there m rest v = by_digits (λ v. (rest : List ℕ) → 0 < v → v < m → decimal_below m (print_decimal v ++ rest) ≡ digits_below m v rest) small more v rest
   where
-    small : (d : ℕ) → d < 10 → (rest : List ℕ) → 0 < d → d < 2 ^ 64 → take_decimal (print_decimal d ++ rest) ≡ take_digits d rest
+    small : (d : ℕ) → d < 10 → (rest : List ℕ) → 0 < d → d < m → decimal_below m (print_decimal d ++ rest) ≡ digits_below m d rest
     small d h rest p l =
         let t : is_decimal (48 + d) ≡ true = grind (arith, nat_tests) in
-        rw (print-digit d h, ne_eqb (48 + d) 48 (omega arith), t) (digit-there 0 d rest h (omega arith) ∙ rw zero-add)
+        rw (print-digit d h, ne_eqb (48 + d) 48 (omega arith), t) (digit-there m 0 d rest h (omega arith) ∙ rw zero-add)
 
-    more : (n : ℕ) → 10 ≤ n → ((rest : List ℕ) → 0 < n / 10 → n / 10 < 2 ^ 64 → take_decimal (print_decimal (n / 10) ++ rest) ≡ take_digits (n / 10) rest)
-        → (rest : List ℕ) → 0 < n → n < 2 ^ 64 → take_decimal (print_decimal n ++ rest) ≡ take_digits n rest
+    more : (n : ℕ) → 10 ≤ n → ((rest : List ℕ) → 0 < n / 10 → n / 10 < m → decimal_below m (print_decimal (n / 10) ++ rest) ≡ digits_below m (n / 10) rest)
+        → (rest : List ℕ) → 0 < n → n < m → decimal_below m (print_decimal n ++ rest) ≡ digits_below m n rest
     more n h ih rest p l =
         let e : n / 10 * 10 + n % 10 ≡ n = omega arith in
-        rw (print-more n h, append_assoc) (ih ((48 + n % 10) ∷ rest) (omega arith) (omega arith) ∙ digit-there (n / 10) (n % 10) rest (omega arith) (omega arith) ∙ rw e)
+        rw (print-more n h, append_assoc) (ih ((48 + n % 10) ∷ rest) (omega arith) (omega arith) ∙ digit-there m (n / 10) (n % 10) rest (omega arith) (omega arith) ∙ rw e)
 
 -- whether no digit stands at the front
 abbrev pub stops : List ℕ → Bool
 stops [] = true
 stops (b ∷ bs) = not (is_decimal b)
 
-digits-stop : (v : ℕ) (rest : List ℕ) → stops rest ≡ true → take_digits v rest ≡ Some (v, rest)
-unfolding take_digits
-digits-stop v [] e = refl
-digits-stop v (b ∷ bs) e = go (is_decimal b) e
+digits-stop : (m v : ℕ) (rest : List ℕ) → stops rest ≡ true → digits_below m v rest ≡ Some (v, rest)
+unfolding digits_below
+digits-stop m v [] e = refl
+digits-stop m v (b ∷ bs) e = go (is_decimal b) e
   where
-    go : (x : Bool) → not x ≡ true → (if x then (if ltb (v * 10 + (b - 48)) (2 ^ 64) then take_digits (v * 10 + (b - 48)) bs else None) else Some (v, b ∷ bs)) ≡ Some (v, b ∷ bs)
+    go : (x : Bool) → not x ≡ true → (if x then (if ltb (v * 10 + (b - 48)) m then digits_below m (v * 10 + (b - 48)) bs else None) else Some (v, b ∷ bs)) ≡ Some (v, b ∷ bs)
     go true e = cc
     go false e = refl
 
+pub below-there : (m v : ℕ) (rest : List ℕ) → v < m → stops rest ≡ true → decimal_below m (print_decimal v ++ rest) ≡ Some (v, rest)
+unfolding decimal_below
+below-there m zero rest h e = rw (print-digit 0 (omega arith))
+below-there m (suc n) rest h e = decimal-there m rest (suc n) (omega arith) h ∙ digits-stop m (suc n) rest e
+
 pub number-there : (v : ℕ) (rest : List ℕ) → v < 2 ^ 64 → stops rest ≡ true → take_decimal (print_decimal v ++ rest) ≡ Some (v, rest)
-unfolding take_decimal
-number-there zero rest h e = rw (print-digit 0 (omega arith))
-number-there (suc n) rest h e = decimal-there rest (suc n) (omega arith) h ∙ digits-stop (suc n) rest e
+number-there v rest h e = decimal-64 (print_decimal v ++ rest) ∙ below-there (2 ^ 64) v rest h e
 
 -- a number that was taken, with what is left
 abbrev Printed : ℕ → List ℕ → List ℕ → Type 0

@@ -1,8 +1,9 @@
 -- "The archive journal": how its numbers and lines are printed. Definitions only.
 use Rattle.std.specs.Prelude.{ℕ, zero, suc, ◌+◌, ◌/◌, ◌%◌, ◌^◌, ◌<◌, List, [], ◌∷◌, ◌++◌, ltb, if◌then◌else◌}
-use Rattle.error.specs.Choice.{bit}
+use Rattle.breaker.specs.Answers.{ticket_values}
 use Rattle.lines.specs.declared.Call.{Call}
-use Rattle.lines.specs.declared.Call.TheVariants.{Admit, Success, Failure, Abort, Reset}
+use Rattle.lines.specs.declared.Order.{Order}
+use Rattle.lines.specs.declared.Order.TheVariants.{Admit, Success, Failure, Abort, Reset}
 use Rattle.lines.specs.declared.Header.{Header}
 use Rattle.lines.specs.declared.HeaderPolicy.{HeaderPolicy}
 use Rattle.lines.specs.declared.HeaderPolicy.TheVariants.{Consecutive, Ratio, Windowed}
@@ -53,29 +54,22 @@ unfoldable pub print_header : Header → List ℕ
 print_header h = print_policy h.policy ++ (print_fields (h.cooldown_ms ∷ h.trials ∷ h.required ∷ []) ++ (10 ∷ []))
 
 -- "Each further line: reading, then `A` admit, `S`, `F`, `X` (success, failure, abort; then generation and probe 0/1) or `Z` reset."
-abbrev pub reading_of : Call → ℕ
-reading_of (Admit t) = t
-reading_of (Success t g p) = t
-reading_of (Failure t g p) = t
-reading_of (Abort t g p) = t
-reading_of (Reset t) = t
+abbrev pub letter_of : Order → ℕ
+letter_of Admit = 65
+letter_of (Success k) = 83
+letter_of (Failure k) = 70
+letter_of (Abort k) = 88
+letter_of Reset = 90
 
-abbrev pub letter_of : Call → ℕ
-letter_of (Admit t) = 65
-letter_of (Success t g p) = 83
-letter_of (Failure t g p) = 70
-letter_of (Abort t g p) = 88
-letter_of (Reset t) = 90
-
-abbrev pub fields_of : Call → List ℕ
-fields_of (Admit t) = []
-fields_of (Success t g p) = g ∷ bit p ∷ []
-fields_of (Failure t g p) = g ∷ bit p ∷ []
-fields_of (Abort t g p) = g ∷ bit p ∷ []
-fields_of (Reset t) = []
+abbrev pub fields_of : Order → List ℕ
+fields_of Admit = []
+fields_of (Success k) = ticket_values k
+fields_of (Failure k) = ticket_values k
+fields_of (Abort k) = ticket_values k
+fields_of Reset = []
 
 unfoldable pub print_call : Call → List ℕ
-print_call c = print_decimal (reading_of c) ++ (32 ∷ print_line (letter_of c) (fields_of c))
+print_call c = print_decimal c.reading ++ (32 ∷ print_line (letter_of c.order) (fields_of c.order))
 
 -- ---- "a number too wide for its field": 32 bits for n, window, min, failures, trials and required, 64 for the others
 
@@ -84,7 +78,7 @@ AllFit [] = Unit
 AllFit (v ∷ vs) = (v < 2 ^ 64) × AllFit vs
 
 abbrev pub CallFits : Call → Type 0
-CallFits c = AllFit (reading_of c ∷ fields_of c)
+CallFits c = AllFit (c.reading ∷ fields_of c.order)
 
 abbrev pub PolicyFits : HeaderPolicy → Type 0
 PolicyFits (Consecutive n) = n < 2 ^ 32

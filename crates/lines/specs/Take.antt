@@ -1,7 +1,9 @@
 -- Internal: what the readers take from the front of a list of bytes. The promises of Reads follow from it by laws, so nobody need believe it.
 use Rattle.std.specs.Prelude.{ℕ, zero, suc, ◌+◌, ◌*◌, ◌-◌, ◌^◌, Bool, ◌&&◌, List, [], ◌∷◌, Option, Some, None, option_map, option_and_then, ltb, leb, eqb, if◌then◌else◌}
+use Rattle.breaker.specs.declared.Ticket.{Ticket}
 use Rattle.lines.specs.declared.Call.{Call}
-use Rattle.lines.specs.declared.Call.TheVariants.{Admit, Success, Failure, Abort, Reset}
+use Rattle.lines.specs.declared.Order.{Order}
+use Rattle.lines.specs.declared.Order.TheVariants.{Admit, Success, Failure, Abort, Reset}
 use Rattle.lines.specs.declared.Header.{Header}
 use Rattle.lines.specs.declared.HeaderPolicy.{HeaderPolicy}
 use Rattle.lines.specs.declared.HeaderPolicy.TheVariants.{Consecutive, Ratio, Windowed}
@@ -56,40 +58,40 @@ take_narrow bs = take_field bs >>= (λ p. if ltb p.0 (2 ^ 32) then Some p else N
 unfoldable pub take_bits : List ℕ → Read ℕ
 take_bits bs = after 32 bs >>= take_hex 16 0
 
-unfoldable pub take_ticket : List ℕ → Read (ℕ × Bool)
+unfoldable pub take_ticket : List ℕ → Read Ticket
 take_ticket bs = do
   generation ← take_field bs
   flag ← take_field generation.1
-  if leb flag.0 1 then Some ((generation.0, eqb flag.0 1), flag.1) else None
+  if leb flag.0 1 then Some (record { generation = generation.0; probe = eqb flag.0 1 }, flag.1) else None
 
 -- ---- lines
 
--- the call of a reading, a letter and a ticket
-abbrev pub with_ticket : ℕ → ℕ → ℕ × Bool → Option Call
-with_ticket t k p =
-    if eqb k 83 then Some (Success t p.0 p.1)
-    else if eqb k 70 then Some (Failure t p.0 p.1)
-    else if eqb k 88 then Some (Abort t p.0 p.1)
+-- what a call with a ticket is, by its letter
+abbrev pub with_ticket : ℕ → Ticket → Option Order
+with_ticket k p =
+    if eqb k 83 then Some (Success p)
+    else if eqb k 70 then Some (Failure p)
+    else if eqb k 88 then Some (Abort p)
     else None
 
-abbrev pub take_ticketed : ℕ → ℕ → List ℕ → Read Call
-take_ticketed t k bs = take_ticket bs >>= (λ p. option_map (λ c. (c, p.1)) (with_ticket t k p.0))
+abbrev pub take_ticketed : ℕ → List ℕ → Read Order
+take_ticketed k bs = take_ticket bs >>= (λ p. option_map (λ o. (o, p.1)) (with_ticket k p.0))
 
--- the call of a reading: its letter, and its ticket where it has one
-unfoldable pub take_order : ℕ → List ℕ → Read Call
-take_order t [] = None
-take_order t (k ∷ bs) =
-    if eqb k 65 then Some (Admit t, bs)
-    else if eqb k 90 then Some (Reset t, bs)
-    else take_ticketed t k bs
+-- what a call is: its letter, and its ticket where it has one
+unfoldable pub take_order : List ℕ → Read Order
+take_order [] = None
+take_order (k ∷ bs) =
+    if eqb k 65 then Some (Admit, bs)
+    else if eqb k 90 then Some (Reset, bs)
+    else take_ticketed k bs
 
 unfoldable pub take_call : List ℕ → Read Call
 take_call bs = do
   reading ← take_decimal bs
-  order ← after 32 reading.1
-  call ← take_order reading.0 order
-  rest ← after 10 call.1
-  Some (call.0, rest)
+  letter ← after 32 reading.1
+  order ← take_order letter
+  rest ← after 10 order.1
+  Some (record { reading = reading.0; order = order.0 }, rest)
 
 -- the policy: its letter and its own fields
 unfoldable pub take_consecutive : List ℕ → Read HeaderPolicy

@@ -1,4 +1,5 @@
 // Numbers at the front of the bytes: decimals and hexadecimal digits.
+// (By hand: `parse` takes a sign and leading zeros, and does not tell where the digits end; `from_str_radix` takes a sign and upper case.)
 ghost use Rattle.std.specs.Prelude.{◌≡◌};
 ghost use Rattle.lines.specs.Reads.{seen};
 ghost use Rattle.lines.specs.Take.{hex_digit, take_digits, take_decimal, take_hex};

@@ -8,36 +8,28 @@ mod digits;
 mod headers;
 mod values;
 
+use breaker::Ticket;
 use calls::take_call;
 use headers::take_header;
 
-// A call of the journal: its reading, then generation and probe flag of its ticket.
+// A call of the journal: its reading, and what it is.
 #[derive(Clone, Copy)]
-pub enum Call {
-    Admit {
-        reading: u64,
-    },
-    Success {
-        reading: u64,
-        generation: u64,
-        probe: bool,
-    },
-    Failure {
-        reading: u64,
-        generation: u64,
-        probe: bool,
-    },
-    Abort {
-        reading: u64,
-        generation: u64,
-        probe: bool,
-    },
-    Reset {
-        reading: u64,
-    },
+pub struct Call {
+    pub reading: u64,
+    pub order: Order,
 }
 
-// A header's policy; the ratio by its bits.
+// What a call is, with its ticket where it has one.
+#[derive(Clone, Copy)]
+pub enum Order {
+    Admit,
+    Success(Ticket),
+    Failure(Ticket),
+    Abort(Ticket),
+    Reset,
+}
+
+// A header's policy; the ratio by its bits. (No `Trip`: a header keeps a NaN's bits too, which an f64 can't be asked for.)
 #[derive(Clone, Copy)]
 pub enum HeaderPolicy {
     Consecutive(u32),
@@ -63,6 +55,7 @@ pub struct Header {
 
 // The call whose line stands at the front, with its line feed, and what is left.
 // Ruled out: one that takes a leading zero; one that takes a number too wide for its field.
+#[tactic(auto, using(crate::proofs::CallLines::call_read))]
 pub fn read_call(s: &[u8]) -> Option<(Call, &[u8])>
     ensures { CallRead s.now (seen result) }
 {
@@ -71,6 +64,7 @@ pub fn read_call(s: &[u8]) -> Option<(Call, &[u8])>
 
 // The header whose line stands at the front, with its line feed, and what is left.
 // Ruled out: one that takes upper-case digits; one that takes 15 of them.
+#[tactic(auto, using(crate::proofs::HeaderLines::header_read))]
 pub fn read_header(s: &[u8]) -> Option<(Header, &[u8])>
     ensures { HeaderRead s.now (seen result) }
 {

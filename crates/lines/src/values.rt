@@ -4,6 +4,7 @@ ghost use Rattle.lines.specs.Reads.{seen};
 ghost use Rattle.lines.specs.Take.{take_field, take_narrow, take_bits, take_ticket};
 
 use crate::digits::{read_decimal, read_hex16};
+use breaker::Ticket;
 
 // A decimal of 64 bits.
 #[tactic(auto, using(crate::proofs::After::stripped), unfolding(crate::specs::Take::take_field))]
@@ -32,7 +33,7 @@ pub(crate) fn read_bits(s: &[u8]) -> Option<(u64, &[u8])>
 
 // A ticket: its generation and its probe flag, 0 or 1.
 #[tactic(auto, unfolding(crate::specs::Take::take_ticket))]
-pub(crate) fn read_ticket(s: &[u8]) -> Option<((u64, bool), &[u8])>
+pub(crate) fn read_ticket(s: &[u8]) -> Option<(Ticket, &[u8])>
     ensures { seen result ≡ take_ticket s.now }
 {
     let (generation, s) = read_field(s)?;
@@ -40,5 +41,9 @@ pub(crate) fn read_ticket(s: &[u8]) -> Option<((u64, bool), &[u8])>
     if flag > 1 {
         return None;
     }
-    Some(((generation, flag == 1), rest))
+    let ticket = Ticket {
+        generation,
+        probe: flag == 1,
+    };
+    Some((ticket, rest))
 }

@@ -1,13 +1,12 @@
 // What an outcome would do: the record after it, and what becomes of the list, which is only read.
 // Each promises for every sound breaker; on any other it is safe, and promises nothing.
-ghost use Rattle.std.specs.Prelude.{◌≡◌, ℕ, ◌+◌, ◌-◌, ◌≤◌, Bool, true};
+ghost use Rattle.std.specs.Prelude.{◌≡◌, ℕ, ◌+◌, ◌-◌, ◌≤◌, Bool};
 ghost use Rattle.std.specs.Float.{binary64};
 ghost use Rattle.std.specs.Float.Ieee.{of_bits};
-ghost use Rattle.trip.specs.declared.Config.{Config};
 ghost use Rattle.trip.specs.Policy.{Consecutive, Ratio, Windowed, policy_of};
-ghost use Rattle.breaker.specs.Record.{State, settings, stored, sound};
+ghost use Rattle.breaker.specs.Record.{settings};
 ghost use Rattle.breaker.specs.Rules.{in_half_open, in_closed, settled};
-ghost use Rattle.steps.specs.Steps.{Holds};
+ghost use Rattle.steps.specs.Steps.{OnStored, Applies, OnHeld};
 ghost use Rattle.outcomes.specs.Decide.{counted_as, Decides, Makes};
 
 use crate::{Change, Recorded};
@@ -19,7 +18,7 @@ use steps::{closed, opened, with_counts, with_history};
 // An outcome in HalfOpen: the record after it.
 // Ruled out: a failure counted as a success; a success that frees a trial which its ticket does not hold.
 pub fn decide_half_open(b: Breaker, now_ms: u64, t: Ticket, success: bool) -> Breaker
-    ensures { (c : Config) (st : State) → b ≡ stored c st → result ≡ stored c (in_half_open (settings c) now_ms t success st) }
+    ensures { Applies (λ c st. in_half_open (settings c) now_ms t success st) b result }
 {
     if !success {
         return opened(b, now_ms);
@@ -41,8 +40,7 @@ pub fn decide_half_open(b: Breaker, now_ms: u64, t: Ticket, success: bool) -> Br
 // Ruled out: one that counts in Open; a stale ticket that counts.
 #[tactic(auto, unfolding(breaker::specs::Rules::settled))]
 pub fn decide_unclosed(b: Breaker, now_ms: u64, t: Ticket, success: bool) -> Breaker
-    ensures { (b.shared.state ≡ 0 → ⊥) → (c : Config) (st : State) → b ≡ stored c st
-        → Makes c (settled (settings c) now_ms t success st) (Ok result) b }
+    ensures { (b.shared.state ≡ 0 → ⊥) → OnStored b (λ c st. Makes c (settled (settings c) now_ms t success st) (Ok result) b) }
 {
     if t.generation != b.shared.generation || b.shared.state != HALF_OPEN {
         return b;
@@ -63,7 +61,7 @@ fn counted(change: Change, trips: bool) -> Recorded
 
 // Consecutive: the list stays empty.
 fn decide_run(b: Breaker, success: bool) -> Recorded
-    ensures { (c : Config) (st : State) (reading : ℕ) → b ≡ stored c st → policy_of c ≡ Consecutive c.limit → Decides (settings c) reading success st (Ok result) }
+    ensures { OnStored b (λ c st. (reading : ℕ) → policy_of c ≡ Consecutive c.limit → Decides (settings c) reading success st (Ok result)) }
 {
     let len = b.shared.len;
     if success {
@@ -82,8 +80,8 @@ fn decide_run(b: Breaker, success: bool) -> Recorded
 
 // Ratio: the outcome goes behind the list, and before a full window the oldest goes.
 fn decide_outcome(b: Breaker, list: &[u64], window: u32, success: bool) -> Recorded
-    ensures { sound b list.now ≡ true → (c : Config) (st : State) (reading : ℕ) → Holds c st b list.now
-        → policy_of c ≡ Ratio window (of_bits binary64 c.ratio_bits) c.min_calls → Decides (settings c) reading success st (Ok result) }
+    ensures { OnHeld b list.now (λ c st. (reading : ℕ) → policy_of c ≡ Ratio window (of_bits binary64 c.ratio_bits) c.min_calls
+        → Decides (settings c) reading success st (Ok result)) }
 {
     let c = b.config;
     let h = b.shared;
@@ -92,6 +90,7 @@ fn decide_outcome(b: Breaker, list: &[u64], window: u32, success: bool) -> Recor
     if success {
         return Recorded::Counted(Change { gone, run: 0, len });
     }
+    // of a list that is not sound the sum may be wider
     let failed = u32::try_from(history::count_failures(list, gone, h.len)).unwrap_or(u32::MAX);
     counted(
         Change {
@@ -112,8 +111,7 @@ fn over(len: u32, window: u32) -> u32
 
 // Windowed: the readings before the cutoff go, and a failure's own is appended.
 fn decide_time(b: Breaker, list: &[u64], now_ms: u64, success: bool) -> Result<Recorded, Refusal>
-    ensures { sound b list.now ≡ true → (c : Config) (st : State) → Holds c st b list.now
-        → policy_of c ≡ Windowed c.limit c.period_ms → Decides (settings c) now_ms success st result }
+    ensures { OnHeld b list.now (λ c st. policy_of c ≡ Windowed c.limit c.period_ms → Decides (settings c) now_ms success st result) }
 {
     let c = b.config;
     let h = b.shared;
@@ -149,8 +147,7 @@ pub fn decide_closed(
     now_ms: u64,
     success: bool,
 ) -> Result<Recorded, Refusal>
-    ensures { sound b list.now ≡ true → (c : Config) (st : State) → Holds c st b list.now
-        → Decides (settings c) now_ms success st result }
+    ensures { OnHeld b list.now (λ c st. Decides (settings c) now_ms success st result) }
 {
     match items_of(b.config) {
         Items::Nothing => Ok(decide_run(b, success)),
@@ -160,10 +157,10 @@ pub fn decide_closed(
 }
 
 // The record that what is decided in Closed comes to.
-// Ruled out: a failure with no room that is told as done; a trip that stays Closed.
+// Ruled out: a run that stays as it was; a trip that stays Closed.
 pub fn concluded(b: Breaker, now_ms: u64, decided: Recorded) -> Breaker
-    ensures { (c : Config) (st : State) (good : Bool) → b ≡ stored c st → Decides (settings c) now_ms good st (Ok decided)
-        → Makes c (in_closed (settings c) now_ms good st) (Ok result) b }
+    ensures { OnStored b (λ c st. (good : Bool) → Decides (settings c) now_ms good st (Ok decided)
+        → Makes c (in_closed (settings c) now_ms good st) (Ok result) b) }
 {
     match decided {
         Recorded::Counted(change) => with_history(b, change.run, change.len),
@@ -181,8 +178,7 @@ pub fn decide_settle(
     t: Ticket,
     success: bool,
 ) -> Result<Breaker, Refusal>
-    ensures { sound b list.now ≡ true → (c : Config) (st : State) → Holds c st b list.now
-        → Makes c (settled (settings c) now_ms t success st) result b }
+    ensures { OnHeld b list.now (λ c st. Makes c (settled (settings c) now_ms t success st) result b) }
 {
     if b.shared.state != CLOSED {
         return Ok(decide_unclosed(b, now_ms, t, success));

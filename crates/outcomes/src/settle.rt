@@ -3,12 +3,11 @@ ghost use Rattle.std.specs.Prelude.{◌≡◌, true, [], length, ◌≤◌};
 ghost use Rattle.error.specs.Told.{nothing};
 ghost use Rattle.history.specs.Items.{padded};
 ghost use Rattle.history.specs.Change.{left, told, held};
-ghost use Rattle.trip.specs.declared.Config.{Config};
 ghost use Rattle.trip.specs.Policy.{policy_of};
-ghost use Rattle.breaker.specs.Record.{State, settings, stored, sound};
+ghost use Rattle.breaker.specs.Record.{settings, sound};
 ghost use Rattle.breaker.specs.Rules.{closing, settled, manual};
 ghost use Rattle.breaker.specs.Calls.{after, done_by_value, kept};
-ghost use Rattle.steps.specs.Steps.{Holds};
+ghost use Rattle.steps.specs.Steps.{OnStored, Holds, OnHeld};
 ghost use Rattle.outcomes.specs.Decide.{changed, Decides, places_after};
 
 use crate::Recorded;
@@ -20,11 +19,11 @@ use steps::{closed, with_counts};
 
 // Closes the breaker and empties its list.
 // Ruled out: a run of failures that is kept; a place left as it was.
-pub fn close(b: Breaker, list: &mut [u64]) -> Breaker
-    ensures { sound b list.old ≡ true → (c : Config) (st : State) → b ≡ stored c st → Holds c (closing st) result list.new }
+pub fn close(breaker: Breaker, list: &mut [u64]) -> Breaker
+    ensures { sound breaker list.old ≡ true → OnStored breaker (λ c st. Holds c (closing st) result list.new) }
 {
-    emptied(b, list);
-    closed(b)
+    emptied(breaker, list);
+    closed(breaker)
 }
 
 // Empties the list of a sound breaker, where nothing is refused.
@@ -36,9 +35,8 @@ fn emptied(b: Breaker, list: &mut [u64])
 
 // Stores the list after an outcome in Closed.
 fn store(b: Breaker, list: &mut [u64], now_ms: u64, failed: bool, gone: u32) -> Result<u32, Refusal>
-    ensures { sound b list.old ≡ true → (c : Config) (st : State) → Holds c st b list.old
-        → length (changed (policy_of c) failed now_ms gone st.list) ≤ 4096
-        → left (told result) list.new ≡ held (changed (policy_of c) failed now_ms gone st.list) }
+    ensures { OnHeld b list.old (λ c st. length (changed (policy_of c) failed now_ms gone st.list) ≤ 4096
+        → left (told result) list.new ≡ held (changed (policy_of c) failed now_ms gone st.list)) }
 {
     let len = b.shared.len;
     match items_of(b.config) {
@@ -61,8 +59,8 @@ pub fn settle_closed(
     now_ms: u64,
     success: bool,
 ) -> Result<Recorded, Refusal>
-    ensures { sound b list.old ≡ true → (c : Config) (st : State) → Holds c st b list.old
-        → Decides (settings c) now_ms success st result × (list.new ≡ places_after (settings c) now_ms success st result) }
+    ensures { OnHeld b list.old (λ c st. Decides (settings c) now_ms success st result
+        × (list.new ≡ places_after (settings c) now_ms success st result)) }
 {
     let decided = decide_closed(b, list, now_ms, success)?;
     // What is decided has room, so this is not refused.
@@ -80,8 +78,7 @@ pub fn settle_unclosed(
     t: Ticket,
     success: bool,
 ) -> Breaker
-    ensures { sound b list.old ≡ true → (b.shared.state ≡ 0 → ⊥) → (c : Config) (st : State) → Holds c st b list.old
-        → after nothing result list.new ≡ kept c (settled (settings c) now_ms t success st) }
+    ensures { (b.shared.state ≡ 0 → ⊥) → OnHeld b list.old (λ c st. after nothing result list.new ≡ kept c (settled (settings c) now_ms t success st)) }
 {
     let next = decide_unclosed(b, now_ms, t, success);
     if next.shared.state == CLOSED {
@@ -90,7 +87,7 @@ pub fn settle_unclosed(
     next
 }
 
-// A settle in any state.
+// A settle in any state. Beside `decide_settle`, with the same tests: that one only reads the list, and the steps here store it.
 // Ruled out: a stale ticket that counts; a failure with no room that is told as done.
 #[tactic(auto, unfolding(breaker::specs::Rules::settled))]
 pub fn settle_locked(
@@ -100,8 +97,7 @@ pub fn settle_locked(
     t: Ticket,
     success: bool,
 ) -> Result<Breaker, Refusal>
-    ensures { sound b list.old ≡ true → (c : Config) (st : State) → Holds c st b list.old
-        → done_by_value result b list.new ≡ kept c (settled (settings c) now_ms t success st) }
+    ensures { OnHeld b list.old (λ c st. done_by_value result b list.new ≡ kept c (settled (settings c) now_ms t success st)) }
 {
     if b.shared.state != CLOSED {
         return Ok(settle_unclosed(b, list, now_ms, t, success));
@@ -120,8 +116,7 @@ pub fn manual_locked(
     now_ms: u64,
     success: bool,
 ) -> Result<Breaker, Refusal>
-    ensures { sound b list.old ≡ true → (c : Config) (st : State) → Holds c st b list.old
-        → done_by_value result b list.new ≡ kept c (manual (settings c) now_ms success st) }
+    ensures { OnHeld b list.old (λ c st. done_by_value result b list.new ≡ kept c (manual (settings c) now_ms success st)) }
 {
     let generation = b.shared.generation;
     let counts = b.shared.counts;

@@ -1,3 +1,3 @@
--- What a reply that is known leaves, and what a preview saw.
+-- What a call by a known kind leaves, and a save; and what a preview saw.
 pub mod Known
 pub mod Seen

@@ -7,13 +7,14 @@ ghost use Rattle.breaker.specs.Calls as Calls;
 ghost use Rattle.breaker.specs.Calls.{on_sound, asked};
 ghost use Rattle.breaker.specs.Orders.{FinishingOrders};
 ghost use Rattle.breaker.specs.Batch.{slices, finished_all};
-ghost use Rattle.crossing.specs.Crossing.{packed, crossing, crossed, crossings, crossed_all, ticket_by, is_reply, decision_by, on_reply, built_by, reconfigured_by};
+ghost use Rattle.crossing.specs.Crossing.{packed, crossing, crossed, crossings, crossed_all};
+ghost use Rattle.crossing.specs.Crossing.{ticket_by, is_reply, decision_by, on_reply, built_by, reconfigured_by};
 
-use crate::pack::{told, told_done};
+use crate::pack::{told, told_done, told_unknown};
 use breaker::{Answered, Breaker};
 use crossing::{
     PlainTicket, Setting, Tell, Told, known_builder, known_decision, tell_unknown,
-    tell_unknown_policy, ticket_by,
+    tell_unknown_policy,
 };
 
 // Puts a fresh breaker into record and storage. An unknown policy kind is told 4, after 3 and before 1 and 2.
@@ -60,7 +61,7 @@ pub fn admit_as(breaker: Breaker, list: &mut [u64], now_ms: u64, via_trait: u8) 
 
 // Admits a call whose inner limiter gave this reply to a request of 1. An unknown reply is told 11, after 3 and 4.
 // Ruled out: an inner retry told 6; 11 told before 3 and 4.
-#[tactic(auto, unfolding(crossing::specs::Crossing::crossed, crossing::specs::Crossing::on_reply))]
+#[tactic(auto, unfolding(crossing::specs::Crossing::on_reply))]
 pub fn try_admit(
     breaker: Breaker,
     list: &mut [u64],
@@ -73,10 +74,7 @@ pub fn try_admit(
         ≡ crossed (on_reply (is_reply inner_kind) (Calls.try_admit (decision_by inner_kind inner_ms) capacity now_ms) breaker list.old) }
 {
     let Some(inner) = known_decision(inner_kind, inner_ms) else {
-        return Answered {
-            answer: tell_unknown(breaker, list),
-            breaker,
-        };
+        return told_unknown(breaker, list);
     };
     told(
         admission::try_admit(breaker, list, now_ms, inner, capacity),
@@ -97,7 +95,7 @@ pub fn settle(
         ≡ crossed (on_sound (Calls.settle now_ms (ticket_by ticket) (flag_of success)) breaker list.old) }
 {
     told_done(
-        circuit::settle(breaker, list, now_ms, ticket_by(ticket), success != 0),
+        circuit::settle(breaker, list, now_ms, ticket.into(), success != 0),
         breaker,
     )
 }
@@ -114,7 +112,7 @@ pub fn abort_as(
         ≡ crossed (on_sound (Calls.abort_as (ticket_by ticket) (flag_of via_trait)) breaker list.old) }
 {
     told_done(
-        circuit::abort_as(breaker, list, ticket_by(ticket), via_trait != 0),
+        circuit::abort_as(breaker, list, ticket.into(), via_trait != 0),
         breaker,
     )
 }
@@ -186,7 +184,7 @@ pub fn finish_all(
 pub fn still_admits(breaker: Breaker, list: &[u64], now_ms: u64, ticket: PlainTicket) -> Told
     ensures { result ≡ packed (asked (Calls.still_admitted now_ms (ticket_by ticket)) breaker list.now) }
 {
-    admission::still_admits(breaker, list, now_ms, ticket_by(ticket)).tell()
+    admission::still_admits(breaker, list, now_ms, ticket.into()).tell()
 }
 
 // The board figure: failures in a thousand calls of the Ratio list.

@@ -9,22 +9,12 @@ mod previews;
 mod saving;
 mod waits;
 
-use breaker::Breaker;
 pub use calls::{
     abort_as, admit_as, board, build, finish_all, reconfigure, record_manual, release_trait_probe,
     reset, settle, still_admits, try_admit,
 };
-use crossing::{PlainPending, Waited};
 pub use limiter::{acquire_cost, available, peek, refund, reserve};
 pub use permits::{permit_cancel, permit_dropped, permit_failure, permit_success};
 pub use previews::{preview_abort, preview_settle};
 pub use saving::{check_block, restore, save};
 pub use waits::{wait_drop, wait_run, wait_start, wait_turn};
-
-// The answer of a wait's call, and the record and the wait after it.
-#[derive(Clone, Copy)]
-pub struct WaitStep {
-    pub answer: Waited,
-    pub breaker: Breaker,
-    pub pending: PlainPending,
-}

@@ -4,13 +4,13 @@ ghost use Rattle.breaker.specs.Calls as Calls;
 ghost use Rattle.breaker.specs.Calls.{on_sound};
 ghost use Rattle.crossing.specs.Crossing.{packed, crossing, crossed, is_reply, decision_by, reservable, reservation_by, on_reply, asked_reply};
 
-use crate::pack::told;
+use crate::pack::{told, told_unknown};
 use breaker::{Answered, Breaker};
 use crossing::{Tell, Told, known_decision, known_reservation, tell_unknown};
 
 // Admits through the trait side, with the inner limiter's reply. An unknown reply is told 11, after 3 and 4.
 // Ruled out: kind and delay swapped; a shed told 6.
-#[tactic(auto, unfolding(crossing::specs::Crossing::crossed, crossing::specs::Crossing::on_reply))]
+#[tactic(auto, unfolding(crossing::specs::Crossing::on_reply))]
 pub fn acquire_cost(
     breaker: Breaker,
     list: &mut [u64],
@@ -22,10 +22,7 @@ pub fn acquire_cost(
         ≡ crossed (on_reply (is_reply inner_kind) (Calls.acquire_cost (decision_by inner_kind inner_ms) now_ms) breaker list.old) }
 {
     let Some(inner) = known_decision(inner_kind, inner_ms) else {
-        return Answered {
-            answer: tell_unknown(breaker, list),
-            breaker,
-        };
+        return told_unknown(breaker, list);
     };
     told(
         admission::acquire_cost(breaker, list, now_ms, inner),
@@ -35,7 +32,7 @@ pub fn acquire_cost(
 
 // Reserves through the trait side, with the inner limiter's reply. An unknown reply is told 11, after 3 and 4.
 // Ruled out: a reply of kind 2 taken for none; a wait told without its milliseconds.
-#[tactic(auto, unfolding(crossing::specs::Crossing::crossed, crossing::specs::Crossing::on_reply))]
+#[tactic(auto, unfolding(crossing::specs::Crossing::on_reply))]
 pub fn reserve(
     breaker: Breaker,
     list: &mut [u64],
@@ -47,10 +44,7 @@ pub fn reserve(
         ≡ crossed (on_reply (reservable inner_kind) (Calls.reserve (reservation_by inner_kind inner_ms) now_ms) breaker list.old) }
 {
     let Some(inner) = known_reservation(inner_kind, inner_ms) else {
-        return Answered {
-            answer: tell_unknown(breaker, list),
-            breaker,
-        };
+        return told_unknown(breaker, list);
     };
     told(admission::reserve(breaker, list, now_ms, inner), breaker)
 }

@@ -6,7 +6,7 @@ ghost use Rattle.crossing.specs.Crossing.{crossing, crossed, ticket_by};
 
 use crate::pack::{told, told_done};
 use breaker::{Answered, Breaker};
-use crossing::{PlainTicket, Told, ticket_by};
+use crossing::{PlainTicket, Told};
 
 // Settles a permit as a success.
 // Ruled out: one that settles a failure; one that cancels.
@@ -20,7 +20,7 @@ pub fn permit_success(
         ≡ crossed (on_sound (Calls.settle now_ms (ticket_by ticket) true) breaker list.old) }
 {
     told_done(
-        circuit::permit_success(breaker, list, now_ms, ticket_by(ticket)),
+        circuit::permit_success(breaker, list, now_ms, ticket.into()),
         breaker,
     )
 }
@@ -37,12 +37,12 @@ pub fn permit_failure(
         ≡ crossed (on_sound (Calls.settle now_ms (ticket_by ticket) false) breaker list.old) }
 {
     told_done(
-        circuit::permit_failure(breaker, list, now_ms, ticket_by(ticket)),
+        circuit::permit_failure(breaker, list, now_ms, ticket.into()),
         breaker,
     )
 }
 
-// Finishes a permit that was dropped unsettled: a failure.
+// Finishes a permit that was dropped unsettled: a failure, by a call of its own since the drop of a permit is one in the Rust.
 // Ruled out: a dropped permit that counts as a success; one that is given back.
 pub fn permit_dropped(
     breaker: Breaker,
@@ -54,7 +54,7 @@ pub fn permit_dropped(
         ≡ crossed (on_sound (Calls.settle now_ms (ticket_by ticket) false) breaker list.old) }
 {
     told_done(
-        circuit::permit_dropped(breaker, list, now_ms, ticket_by(ticket)),
+        circuit::permit_dropped(breaker, list, now_ms, ticket.into()),
         breaker,
     )
 }
@@ -65,7 +65,7 @@ pub fn permit_cancel(breaker: Breaker, list: &mut [u64], ticket: PlainTicket) ->
     ensures { crossing result.answer result.breaker list.new ≡ crossed (on_sound (Calls.cancel (ticket_by ticket)) breaker list.old) }
 {
     told(
-        circuit::permit_cancel(breaker, list, ticket_by(ticket)),
+        circuit::permit_cancel(breaker, list, ticket.into()),
         breaker,
     )
 }

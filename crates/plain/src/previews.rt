@@ -8,7 +8,7 @@ ghost use Rattle.crossing.specs.Crossing.{packed_preview, ticket_by};
 
 use crate::pack::told_done;
 use breaker::{Answered, Breaker};
-use crossing::{PlainPreview, PlainTicket, ticket_by};
+use crossing::{PlainPreview, PlainTicket};
 use error::Refusal;
 
 // What a preview saw of the record that was handed in.
@@ -35,7 +35,7 @@ pub fn preview_settle(
     ensures { result ≡ packed_preview (preview_of (on_sound (Calls.settle now_ms (ticket_by ticket) (flag_of success)) breaker list.now)) }
 {
     told_preview(
-        preview::preview_settle(breaker, list, now_ms, ticket_by(ticket), success != 0),
+        preview::preview_settle(breaker, list, now_ms, ticket.into(), success != 0),
         breaker,
     )
 }
@@ -51,7 +51,7 @@ pub fn preview_abort(
     ensures { result ≡ packed_preview (preview_of (on_sound (Calls.abort_as (ticket_by ticket) (flag_of via_trait)) breaker list.now)) }
 {
     told_preview(
-        preview::preview_abort(breaker, list, ticket_by(ticket), via_trait != 0),
+        preview::preview_abort(breaker, list, ticket.into(), via_trait != 0),
         breaker,
     )
 }

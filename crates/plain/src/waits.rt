@@ -5,12 +5,11 @@ ghost use Rattle.error.specs.Choice.{flag_of};
 ghost use Rattle.waiting.specs.Calls.{with_wait, start_pending, turn_pending, run_pending, drop_pending};
 ghost use Rattle.crossing.specs.Waits.{crossing_wait, crossed_start, crossed_turn, crossed_run, pending_by};
 
-use crate::WaitStep;
 use breaker::Breaker;
-use crossing::{PlainPending, Tell, after_turn, pending_by, plain_pending, tell_wait};
+use crossing::{PlainPending, Tell, Waited, after_turn, tell_wait};
 use error::Refusal;
 use wait::Observed;
-use waiting::WithWait;
+use waiting::{Pending, WithWait};
 
 // A turn or a drop: its answer, the record after it, and the wait that the rule leaves with the ticket as it was handed in.
 #[tactic(auto, unfolding(crossing::specs::Waits::crossed_turn))]
@@ -18,17 +17,17 @@ fn told_wait<A: Tell>(
     called: Result<WithWait<A>, Refusal>,
     breaker: Breaker,
     pending: PlainPending,
-) -> WaitStep
+) -> WithWait<Waited, PlainPending>
     ensures { (places : List ℕ) → crossing_wait result.answer result.breaker places result.pending
         ≡ crossed_turn (with_wait (told_by A.told) called breaker places (pending_by pending)) pending }
 {
     match called {
-        Ok(next) => WaitStep {
+        Ok(next) => WithWait {
             answer: tell_wait(next.answer, 0),
             breaker: next.breaker,
             pending: after_turn(next.pending, pending),
         },
-        Err(refusal) => WaitStep {
+        Err(refusal) => WithWait {
             answer: tell_wait(refusal, 0),
             breaker,
             pending,
@@ -47,17 +46,17 @@ pub fn wait_start(
     clock: u64,
     limited: u8,
     timeout: u64,
-) -> WaitStep
+) -> WithWait<Waited, PlainPending>
     ensures { crossing_wait result.answer result.breaker list.new result.pending
         ≡ crossed_start (start_pending now_ms clock (flag_of limited) timeout breaker list.old (pending_by pending)) pending }
 {
     match waiting::start(breaker, list, now_ms, clock, limited != 0, timeout) {
-        Ok(begun) => WaitStep {
+        Ok(begun) => WithWait {
             answer: tell_wait((), 0),
             breaker: begun.breaker,
-            pending: plain_pending(begun.pending),
+            pending: begun.pending.into(),
         },
-        Err(instead) => WaitStep {
+        Err(instead) => WithWait {
             answer: tell_wait(instead, 0),
             breaker,
             pending,
@@ -74,11 +73,11 @@ pub fn wait_turn(
     turn: Observed,
     now_ms: u64,
     capacity: u32,
-) -> WaitStep
+) -> WithWait<Waited, PlainPending>
     ensures { crossing_wait result.answer result.breaker list.new result.pending
         ≡ crossed_turn (turn_pending turn now_ms capacity breaker list.old (pending_by pending)) pending }
 {
-    let handed = pending_by(pending);
+    let handed = Pending::from(pending);
     told_wait(
         waiting::turn(breaker, list, handed, turn, now_ms, capacity),
         breaker,
@@ -97,13 +96,13 @@ pub fn wait_run(
     limit: u64,
     now_ms: u64,
     capacity: u32,
-) -> WaitStep
+) -> WithWait<Waited, PlainPending>
     ensures { crossing_wait result.answer result.breaker list.new result.pending
         ≡ crossed_run (run_pending turns.now limit now_ms capacity breaker list.old (pending_by pending)) pending }
 {
-    let handed = pending_by(pending);
+    let handed = Pending::from(pending);
     let ran = waiting::run(breaker, list, handed, turns, limit, now_ms, capacity);
-    WaitStep {
+    WithWait {
         answer: tell_wait(ran.answer.course, ran.answer.taken),
         breaker: ran.breaker,
         pending: after_turn(ran.pending, pending),
@@ -112,11 +111,15 @@ pub fn wait_run(
 
 // Ends a wait before its time: the ticket is given back.
 // Ruled out: a held grant told as nothing to give back; the wait before the drop returned.
-pub fn wait_drop(breaker: Breaker, list: &mut [u64], pending: PlainPending) -> WaitStep
+pub fn wait_drop(
+    breaker: Breaker,
+    list: &mut [u64],
+    pending: PlainPending,
+) -> WithWait<Waited, PlainPending>
     ensures { crossing_wait result.answer result.breaker list.new result.pending
         ≡ crossed_turn (drop_pending breaker list.old (pending_by pending)) pending }
 {
-    let handed = pending_by(pending);
+    let handed = Pending::from(pending);
     told_wait(
         waiting::drop_pending(breaker, list, handed),
         breaker,

@@ -8,9 +8,9 @@ ghost use Rattle.breaker.specs.Calls.{on_sound};
 ghost use Rattle.preview.specs.Preview.{preview_of, previewed};
 
 use breaker::{Breaker, Ticket, test};
+use circuit::abort_as;
 use error::Refusal;
 use outcomes::decide_settle;
-use steps::abort_locked;
 
 // What `settle` would do.
 // Ruled out: a failure with no room that is told as done; a length that leaves out the eviction.
@@ -28,9 +28,8 @@ pub fn preview_settle(
     decide_settle(breaker, list, now_ms, ticket, success)
 }
 
-// What `abort_as` would do.
+// What `abort_as` would do: it only reads the list, so it is called.
 // Ruled out: a trait abort that leaves the trait probes; an abort of a stale probe.
-#[tactic(auto, unfolding(breaker::specs::Calls::on_sound))]
 pub fn preview_abort(
     breaker: Breaker,
     list: &[u64],
@@ -39,6 +38,5 @@ pub fn preview_abort(
 ) -> Result<Breaker, Refusal>
     ensures { previewed result breaker ≡ preview_of (on_sound (Calls.abort_as ticket via_trait) breaker list.now) }
 {
-    test(breaker, list)?;
-    Ok(abort_locked(breaker, ticket, via_trait))
+    abort_as(breaker, list, ticket, via_trait)
 }

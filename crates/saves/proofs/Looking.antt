@@ -1,9 +1,8 @@
 -- What is found in a buffer, from its passes. Assumes nothing.
-use Rattle.std.proofs.Common.{◌≡◌, ℕ, ◌/◌, Bool, true, ◌||◌, List, [], ◌∷◌, ◌++◌, Option, Some, None, Ok, length, take, sym, refl, ap, ap₂, subst, ◌∙◌, length-take-le}
+use Rattle.std.proofs.Common.{◌≡◌, ℕ, ◌/◌, Bool, true, ◌||◌, List, [], ◌∷◌, ◌++◌, Option, Some, None, Result, Ok, Err, length, take, sym, refl, ap, ap₂, subst, ◌∙◌, length-take-le}
 use Rattle.saves.proofs.Names.{framed→}
 use Rattle.std.specs.List.{list_any}
-use Rattle.std.specs.Option.{ok_or}
-use Rattle.error.specs.declared.Refusal.TheVariants.{Damaged}
+use Rattle.error.specs.declared.Refusal.{Refusal}
 use Rattle.le_bytes.specs.Bytes.{number}
 use Rattle.blocks.specs.Block.{summed, versioned}
 use Rattle.blocks.specs.Run.{every}
@@ -41,6 +40,6 @@ module _ (buffer : List ℕ) (used : ℕ) (name : List ℕ) (asked : Option ℕ)
       (ss, all f s v ss a e, before, x, behind, b, w, refl, sym (q x.name g.named) ∙ n, e ∙ ap runs_of w)
 
   -- what the walk found, as what is answered
-  pub look_by : (r : Option (Option ℕ)) → WalkedAs (take used buffer) asked r → LookedAs buffer used name (ok_or r Damaged)
-  look_by None w = rest f s v w
-  look_by (Some place) w = look_at place w.0 w.1 w.2 w.3
+  pub look_by : (r : Result (Option ℕ) Refusal) → WalkedAs (take used buffer) asked r → LookedAs buffer used name r
+  look_by (Err r) w = subst (λ (r : Refusal). LookedAs buffer used name (Err r)) (sym w.0) (rest f s v w.1)
+  look_by (Ok place) w = look_at place w.0 w.1 w.2 w.3

@@ -16,7 +16,10 @@ use Rattle.blocks.proofs.Joins.{length_run}
 use Rattle.blocks.proofs.Unique.{run-one}
 use Rattle.body.specs.Save.{Save, body_of}
 use Rattle.body.proofs.Saves.{body-least}
-use Rattle.std.proofs.Common.{Option, Some, None, ap₂}
+use Rattle.std.proofs.Common.{Option, Some, None, Ok, Err, ap₂}
+use Rattle.std.specs.Option.{ok_or}
+use Rattle.error.specs.declared.Refusal.{Refusal}
+use Rattle.error.specs.declared.Refusal.TheVariants.{Damaged}
 use Rattle.std.specs.List.{list_any}
 use Rattle.std.proofs.lemmas.List.Folds.{list_any-append}
 use Rattle.saves.specs.declared.Stands.{Stands}
@@ -53,6 +56,15 @@ all-behind (h ∷ hs) ss a = all-behind hs ss a.2
 numbers-single : (v : Save) → numbers_of (v ∷ []) ≡ number v.name ∷ []
 unfolding numbers_of
 numbers-single v = refl
+
+-- ---- what stands at a place, or 13
+pub stands-there : (o : Option Stands) (x : Stands) → ok_or o Damaged ≡ Ok x → o ≡ Some x
+stands-there None x e = cc
+stands-there (Some y) x e = cc
+
+pub stands-none : (o : Option Stands) (r : Refusal) → ok_or o Damaged ≡ Err r → (o ≡ None) × (r ≡ Damaged)
+stands-none None r e = (refl, cc)
+stands-none (Some y) r e = cc
 
 -- ---- what is behind a place: good saves, the numbers of their names, and where the asked one is
 pub record Behind (s : List ℕ) (asked : Option ℕ) (names : List ℕ) (count at : ℕ) (place : Option ℕ) : Type 0 where

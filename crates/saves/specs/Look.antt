@@ -3,6 +3,7 @@ use Rattle.std.specs.Prelude.{ℕ, ◌*◌, ◌≤◌, ◌≡◌, ◌==◌, nat_
 use Rattle.std.specs.List.{list_any}
 use Rattle.std.specs.Option.{option_eq}
 use Rattle.error.specs.declared.Refusal.{Refusal}
+use Rattle.error.specs.declared.Refusal.TheVariants.{Damaged}
 use Rattle.le_bytes.specs.Bytes.{number}
 use Rattle.blocks.specs.Run.{count_of, run_of}
 use Rattle.body.specs.Save.{Save, Good, body_of}
@@ -38,10 +39,10 @@ pub data Placed (asked : Option ℕ) (ss : List Save) : Option ℕ → Type 0 wh
   absent : list_any (is_asked asked) (numbers_of ss) ≡ false → Placed asked ss None
   present : (before : List Save) (x : Save) (behind : List Save) → ss ≡ before ++ x ∷ behind → is_asked asked (number x.name) ≡ true → Placed asked ss (Some (length (runs_of before)))
 
--- what a walk over bytes finds: the saves that they are, and the place of the asked name; or that they are no saves
-abbrev pub WalkedAs : List ℕ → Option ℕ → Option (Option ℕ) → Type 0
-WalkedAs bs asked (Some place) = (ss : List Save) × AllGood ss × (bs ≡ runs_of ss) × Placed asked ss place
-WalkedAs bs asked None = (ss : List Save) → AllGood ss → bs ≡ runs_of ss → ⊥
+-- what a walk over bytes finds: the saves that they are, and the place of the asked name; 13 where they are no saves
+abbrev pub WalkedAs : List ℕ → Option ℕ → Result (Option ℕ) Refusal → Type 0
+WalkedAs bs asked (Ok place) = (ss : List Save) × AllGood ss × (bs ≡ runs_of ss) × Placed asked ss place
+WalkedAs bs asked (Err r) = (r ≡ Damaged) × ((ss : List Save) → AllGood ss → bs ≡ runs_of ss → ⊥)
 
 -- what is found in a buffer, and the save of the asked name with its place
 abbrev pub LookedAs : List ℕ → ℕ → List ℕ → Result (Option ℕ) Refusal → Type 0

@@ -1,14 +1,13 @@
 // What a buffer holds, in three passes over all its used blocks, and where the asked name is.
-ghost use Rattle.std.specs.Prelude.{◌≡◌, true, List, ℕ, ◌/◌, ◌≤◌, length};
+ghost use Rattle.std.specs.Prelude.{◌≡◌, true, List, ℕ, ◌≤◌, length};
 ghost use Rattle.le_bytes.specs.Bytes.{number};
-ghost use Rattle.blocks.specs.Block.{summed};
-ghost use Rattle.blocks.specs.Run.{every};
+ghost use Rattle.blocks.specs.Run.{Summed};
 ghost use Rattle.body.specs.Save.{is_name};
 ghost use Rattle.saves.specs.Buffer.{framed, same_bytes};
 ghost use Rattle.saves.specs.Look.{LookedAs, SizeFits, StandsAs, WalkedAs, is_asked};
 
-use crate::{LARGEST, MOST_SAVES, ROOM, Stands, VERSION};
-use blocks::{BLOCK, Run, all_summed, all_versioned, count_of, join, run_at};
+use crate::{MOST_SAVES, ROOM, Stands};
+use blocks::{BLOCK, LARGEST, Run, VERSION, all_summed, all_versioned, count_of, join, run_at};
 use body::{NAME, is_name, read};
 use error::Refusal;
 use le_bytes::number_at;
@@ -29,7 +28,8 @@ fn asked_number(name: &[u8]) -> Option<u64>
 
 // What stands at the front of blocks whose sums are right. `body` is room for a body.
 fn save_at(s: &[u8], body: &mut [u8; ROOM]) -> Option<Stands>
-    ensures { SizeFits result × (every summed (length s.now / 512) s.now ≡ true → StandsAs s.now result) }
+    requires { Summed s.now }
+    ensures { SizeFits result × StandsAs s.now result }
 {
     let Run { version, size } = run_at(s)?;
     if version != VERSION || ROOM < size {
@@ -44,10 +44,10 @@ fn save_at(s: &[u8], body: &mut [u8; ROOM]) -> Option<Stands>
     })
 }
 
-// The place of the asked name among the saves of blocks whose sums are right; none where they are no saves. `body` is room for a body.
-fn walk(s: &[u8], asked: Option<u64>, body: &mut [u8; ROOM]) -> Option<Option<usize>>
-    requires { length s.now ≤ 65536 }
-    ensures { every summed (length s.now / 512) s.now ≡ true → WalkedAs s.now asked result }
+// The place of the asked name among the saves of blocks whose sums are right, if it is there; 13 where they are no saves. `body` is room for a body.
+fn walk(s: &[u8], asked: Option<u64>, body: &mut [u8; ROOM]) -> Result<Option<usize>, Refusal>
+    requires { (length s.now ≤ 65536) × Summed s.now }
+    ensures { WalkedAs s.now asked result }
 {
     // no heap here: an array, and how many of its places are taken
     let mut names = [0; MOST_SAVES];
@@ -56,9 +56,9 @@ fn walk(s: &[u8], asked: Option<u64>, body: &mut [u8; ROOM]) -> Option<Option<us
     let mut place = None;
     // by places, and not by what is left: a place is the answer
     while at < s.len() {
-        let Stands { name, size } = save_at(&s[at..], body)?;
+        let Stands { name, size } = save_at(&s[at..], body).ok_or(Refusal::Damaged)?;
         if names[..count].contains(&name) {
-            return None;
+            return Err(Refusal::Damaged);
         }
         if asked == Some(name) {
             place = Some(at);
@@ -67,10 +67,11 @@ fn walk(s: &[u8], asked: Option<u64>, body: &mut [u8; ROOM]) -> Option<Option<us
         count += 1;
         at += BLOCK * count_of(size);
     }
-    Some(place)
+    Ok(place)
 }
 
 // What a buffer holds, and where the asked name is: refused with 13, 14 and 13, each over all used blocks.
+// C hands buffer, used length and name apart, and each call tests them anew, so they stay three parameters.
 // Ruled out: a version tested before the last sum; a name that is there twice and let pass.
 pub fn look(buffer: &[u8], used: usize, name: &[u8]) -> Result<Option<usize>, Refusal>
     ensures { LookedAs buffer.now used name.now result }
@@ -86,5 +87,5 @@ pub fn look(buffer: &[u8], used: usize, name: &[u8]) -> Result<Option<usize>, Re
         return Err(Refusal::Version);
     }
     let mut body = [0; ROOM];
-    walk(s, asked_number(name), &mut body).ok_or(Refusal::Damaged)
+    walk(s, asked_number(name), &mut body)
 }

@@ -1,9 +1,8 @@
 // Admission, and whether a waiter may still go.
 ghost use Rattle.std.specs.Prelude.{◌≡◌};
-ghost use Rattle.trip.specs.declared.Config.{Config};
-ghost use Rattle.breaker.specs.Record.{State, settings, stored};
+ghost use Rattle.breaker.specs.Record.{settings};
 ghost use Rattle.breaker.specs.Rules.{admit, admit_as, still_admits};
-ghost use Rattle.steps.specs.Steps.{entry, verdict};
+ghost use Rattle.steps.specs.Steps.{OnStored, entry, verdict};
 
 use crate::update::{transition, with_counts};
 use breaker::{
@@ -24,7 +23,7 @@ fn granted(breaker: Breaker, probe: bool) -> Answered<Ticket>
 // A ticket and the record after it, or the delay of a shed.
 // Ruled out: a shed at open-until itself; a trial beyond the trials.
 pub fn admit_locked(b: Breaker, now_ms: u64) -> Result<Answered<Ticket>, Delay>
-    ensures { (c : Config) (st : State) → b ≡ stored c st → result ≡ entry c (admit (settings c) now_ms st) }
+    ensures { OnStored b (λ c st. result ≡ entry c (admit (settings c) now_ms st)) }
 {
     let h = b.shared;
     if h.state == CLOSED {
@@ -55,7 +54,7 @@ pub fn admit_locked(b: Breaker, now_ms: u64) -> Result<Answered<Ticket>, Delay>
 
 // Ruled out: a trait probe counted for a plain admission; one counted for a ticket without a probe.
 pub fn admit_as_locked(b: Breaker, now_ms: u64, via_trait: bool) -> Result<Answered<Ticket>, Delay>
-    ensures { (c : Config) (st : State) → b ≡ stored c st → result ≡ entry c (admit_as via_trait (settings c) now_ms st) }
+    ensures { OnStored b (λ c st. result ≡ entry c (admit_as via_trait (settings c) now_ms st)) }
 {
     let admitted = admit_locked(b, now_ms)?;
     if !via_trait || !admitted.answer.probe {
@@ -75,7 +74,7 @@ pub fn admit_as_locked(b: Breaker, now_ms: u64, via_trait: bool) -> Result<Answe
 // Nothing where a waiter may still go, else the delay.
 // Ruled out: a shed of the present generation while Open; a delay above 0 in HalfOpen.
 pub fn still_admits_locked(b: Breaker, now_ms: u64, ticket: Ticket) -> Result<(), Delay>
-    ensures { (c : Config) (st : State) → b ≡ stored c st → result ≡ verdict (still_admits now_ms ticket st) }
+    ensures { OnStored b (λ c st. result ≡ verdict (still_admits now_ms ticket st)) }
 {
     let h = b.shared;
     if ticket.generation == h.generation || h.state == CLOSED {

@@ -1,7 +1,6 @@
 // The three kinds of change to a record, and the transitions made of them. Each promises for every state that the record stores.
 ghost use Rattle.std.specs.Prelude.{◌≡◌, ℕ, List, length};
-ghost use Rattle.trip.specs.declared.Config.{Config};
-ghost use Rattle.breaker.specs.Record.{State, settings, stored};
+ghost use Rattle.breaker.specs.Record.{settings};
 ghost use Rattle.breaker.specs.Rules as Rules;
 ghost use Rattle.breaker.specs.Rules.{next, with_counts, with_history, moved, opening, closing, in_generation};
 ghost use Rattle.steps.specs.Steps.{Applies};

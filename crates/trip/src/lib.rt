@@ -4,7 +4,8 @@
 ghost use Rattle.std.specs.Prelude.{◌≡◌};
 ghost use Rattle.std.specs.Float.{binary64};
 ghost use Rattle.std.specs.Float.Ieee.{of_bits};
-ghost use Rattle.trip.specs.Settings.{millis_of, of_millis, clamped_ratio, normalised_ratio, normalised_trip, settings_of, built_of, default_builder, with_trip, with_cooldown, with_half_open};
+ghost use Rattle.trip.specs.Settings.{millis_of, of_millis, clamped_ratio, normalised_ratio, normalised_trip, settings_of, built_of};
+ghost use Rattle.trip.specs.Settings.{default_builder, with_trip, with_cooldown, with_half_open};
 ghost use Rattle.trip.specs.Policy.{run_reached, ratio_reached, times_reached, board_figure};
 
 use error::Refusal;
@@ -19,7 +20,8 @@ pub const ONE_BITS: u64 = 0x3ff0_0000_0000_0000;
 // The bits of infinity. Those of a NaN, without the sign, are above them.
 pub const INFINITY_BITS: u64 = 0x7ff0_0000_0000_0000;
 
-// Whole seconds and the nanoseconds past them.
+// Whole seconds and the nanoseconds past them. A type of its own, since a caller may hand in 10^9 nanoseconds or more, which is refused and
+// which std's Duration can't hold.
 #[derive(Clone, Copy)]
 pub struct Duration {
     pub secs: u64,
@@ -69,7 +71,7 @@ pub enum Trip {
     },
 }
 
-// The settings of Ratio.
+// The settings of Ratio: a struct by value beside the case of `Trip`, since the project's list of forms asks for both (docs/DECISIONS.md).
 #[derive(Clone, Copy)]
 pub struct RatioSettings {
     pub window: u32,
@@ -152,9 +154,9 @@ pub const POLICY_RATIO: u8 = 2;
 
 pub const POLICY_WINDOWED: u8 = 3;
 
-// The settings of a breaker record, in document 01's order. Fields of another policy are 0.
+// The settings of a breaker record, in document 01's order. Fields of another policy are 0. All 0, they are of no policy, and not sound.
 #[repr(C)]
-#[derive(Clone, Copy, Debug, PartialEq, Eq)]
+#[derive(Clone, Copy, Debug, Default, PartialEq, Eq)]
 pub struct Config {
     // 1 Consecutive, 2 Ratio, 3 Windowed
     pub kind: u8,
@@ -182,32 +184,25 @@ fn config_of(trip: Trip, cooldown_ms: u64, trials: u32, required: u32) -> Result
 {
     let shared = Config {
         kind: POLICY_CONSECUTIVE,
-        limit: 0,
-        ratio_bits: 0,
-        min_calls: 0,
-        period_ms: 0,
         cooldown_ms,
         trials,
         required,
+        ..Config::default()
     };
     match trip.normalised() {
         Trip::Consecutive(n) => Ok(Config { limit: n, ..shared }),
+        Trip::Ratio { window, .. } if MOST_ITEMS < window => Err(Refusal::Limit),
         Trip::Ratio {
             window,
             ratio,
             min_calls,
-        } => {
-            if MOST_ITEMS < window {
-                return Err(Refusal::Limit);
-            }
-            Ok(Config {
-                kind: POLICY_RATIO,
-                limit: window,
-                ratio_bits: ratio.to_bits(),
-                min_calls,
-                ..shared
-            })
-        }
+        } => Ok(Config {
+            kind: POLICY_RATIO,
+            limit: window,
+            ratio_bits: ratio.to_bits(),
+            min_calls,
+            ..shared
+        }),
         Trip::Windowed { failures, period } => {
             let period_ms = period.as_millis()?;
             if MOST_ITEMS < failures {
@@ -308,7 +303,7 @@ pub fn ratio_trips(failed: u32, calls: u32, min_calls: u32, ratio_bits: u64) -> 
         return false;
     }
     let ratio = f64::from_bits(ratio_bits);
-    (failed as f64) / (calls as f64) >= ratio
+    f64::from(failed) / f64::from(calls) >= ratio
 }
 
 // Whether so many recent failures trip Windowed.
@@ -327,5 +322,5 @@ pub fn board_figure(failed: u32, calls: u32) -> u64
     if calls == 0 {
         return 0;
     }
-    (failed as u64) * 1000 / (calls as u64)
+    u64::from(failed) * 1000 / u64::from(calls)
 }

@@ -1,4 +1,5 @@
 // What a line asks of a breaker and a wait, and the calls of handle that it makes.
+// Matches, no table of functions: each call takes other arguments. The record, its list and the wait are handed on apart, as handle takes them.
 use breaker::{Breaker, Decision, Delay, Ticket};
 use crossing::{Tell, Waited, tell_wait};
 use trip::CircuitBreakerBuilder;
@@ -176,8 +177,20 @@ impl Turn {
         ))
     }
 
-    fn numbers(self) -> [u64; TURN_WIDTH] {
-        let turn = self.observed;
+    // A run of so many numbers, which may take so many turns.
+    pub(crate) fn run(self, numbers: usize, limit: u64) -> Run {
+        Run {
+            turn: self,
+            numbers,
+            limit,
+        }
+    }
+}
+
+// A turn's numbers as a run takes them, in the order of Observed's fields.
+impl From<Turn> for [u64; TURN_WIDTH] {
+    fn from(turn: Turn) -> Self {
+        let turn = turn.observed;
         [
             turn.clock,
             turn.epoch_before,
@@ -189,22 +202,12 @@ impl Turn {
             turn.postponed_after,
         ]
     }
-
-    // A run of so many numbers, which may take so many turns.
-    pub(crate) fn run(self, numbers: usize, limit: u64) -> Run {
-        let turn = self;
-        Run {
-            turn,
-            numbers,
-            limit,
-        }
-    }
 }
 
 impl Run {
     // The second turn is of zeros, and is refused.
     fn make(self, ours: &mut Ours, list: &[u64]) -> Waited {
-        let turns = [self.turn.numbers(), [0; TURN_WIDTH]];
+        let turns = [self.turn.into(), [0; TURN_WIDTH]];
         let numbers = turns.as_flattened();
         let end = self.numbers.min(numbers.len());
         let progress = handle::wait_run(

@@ -1,4 +1,6 @@
 // The lines of the sample, as what they ask and what they expect (oracle/README.md).
+// buffers reads settings and records too, as its own lines have them: a library's public function promises its result by a definition, and what
+// a sample's line holds, or that a number is too wide for its field, has none.
 use crate::asked::{Call, Op, Outcome, Start, Turn};
 use crate::numbers::Numbers;
 use anyhow::{Context, Error, Result, bail, ensure};
@@ -15,11 +17,19 @@ pub(crate) struct Due {
     pub(crate) shared: Shared,
 }
 
-// What the list loses at its front and takes at its end.
+// What the list loses at its front, and what it takes at its end.
 #[derive(Clone, Copy)]
 pub(crate) struct Moved<'a> {
     pub(crate) popped: usize,
     pub(crate) pushed: &'a [u64],
+}
+
+// A call on the breaker, what it is due, and how the list moves.
+#[derive(Clone, Copy)]
+pub(crate) struct Step<'a> {
+    pub(crate) call: Call,
+    pub(crate) due: Due,
+    pub(crate) moved: Moved<'a>,
 }
 
 #[derive(Clone, Copy)]
@@ -28,12 +38,12 @@ pub(crate) enum Line<'a> {
     Build(CircuitBreakerBuilder, Config),
     // the rest of a breaker's record, and its list
     State(Shared, &'a [u64]),
-    Call(Call, Due, Moved<'a>),
+    Step(Step<'a>),
     Start(Start, Due),
     Turn(Turn, Due),
     Drop(Due),
     // a call between two turns
-    Between(Call, Due, Moved<'a>),
+    Between(Step<'a>),
 }
 
 impl<'a> TryFrom<&'a [u64]> for Line<'a> {
@@ -48,12 +58,12 @@ impl<'a> TryFrom<&'a [u64]> for Line<'a> {
                 let shared = numbers.shared()?;
                 Line::State(shared, numbers.rest(shared.len.into())?)
             }
-            2 => Line::Call(numbers.call()?, numbers.due()?, numbers.moved()?),
+            2 => Line::Step(numbers.step()?),
             3 => Line::Start(numbers.start()?, numbers.last_due()?),
             4 => Line::Turn(numbers.turn()?, numbers.last_due()?),
             5 => Line::Drop(numbers.last_due()?),
-            6 => Line::Between(numbers.call_between()?, numbers.due()?, numbers.moved()?),
-            _ => bail!("no such line"),
+            6 => Line::Between(numbers.step_between()?),
+            _ => bail!("no such line: {kind}"),
         })
     }
 }
@@ -62,13 +72,15 @@ fn flag(number: u64) -> Result<bool> {
     match number {
         0 => Ok(false),
         1 => Ok(true),
-        _ => bail!("no flag"),
+        _ => bail!("no flag: {number}"),
     }
 }
 
 fn ticket(generation: u64, probe: u64) -> Result<Ticket> {
-    let probe = flag(probe)?;
-    Ok(Ticket { generation, probe })
+    Ok(Ticket {
+        generation,
+        probe: flag(probe)?,
+    })
 }
 
 fn decision(reply: u64, ms: u64) -> Result<Decision> {
@@ -88,63 +100,71 @@ impl TryFrom<u64> for Outcome {
             2 => Ok(Outcome::Failure),
             3 => Ok(Outcome::Dropped),
             4 => Ok(Outcome::Cancelled),
-            _ => bail!("no outcome"),
+            _ => bail!("no outcome: {number}"),
         }
     }
 }
 
-// An operation of the breaker's own, by its number and the three numbers that it takes.
-fn own_op(op: u64, a: u64, b: u64, c: u64) -> Result<Op> {
-    Ok(match (op, a, b, c) {
-        (1, _, 0, 0) => Op::AdmitAs {
-            via_trait: flag(a)?,
-        },
-        (2, ..) => Op::Settle {
-            ticket: ticket(a, b)?,
-            success: flag(c)?,
-        },
-        (3, ..) => Op::AbortAs {
-            ticket: ticket(a, b)?,
-            via_trait: flag(c)?,
-        },
-        (4, 0, 0, 0) => Op::ReleaseTraitProbe,
-        (5, _, 0, 0) => Op::RecordManual { success: flag(a)? },
-        (6, 0, 0, 0) => Op::Reset,
-        (7, _, _, 0) => Op::StillAdmits {
-            ticket: ticket(a, b)?,
-        },
-        (9, ..) => Op::Permit {
-            ticket: ticket(a, b)?,
-            outcome: c.try_into()?,
-        },
-        _ => bail!("no such call"),
-    })
+// An operation by its number and the three numbers that it takes: one of the breaker's own, or else one that the inner limiter takes part in.
+impl TryFrom<[u64; 4]> for Op {
+    type Error = Error;
+
+    fn try_from(numbers: [u64; 4]) -> Result<Self> {
+        Ok(match numbers {
+            [1, via_trait, 0, 0] => Op::AdmitAs {
+                via_trait: flag(via_trait)?,
+            },
+            [2, generation, probe, success] => Op::Settle {
+                ticket: ticket(generation, probe)?,
+                success: flag(success)?,
+            },
+            [3, generation, probe, via_trait] => Op::AbortAs {
+                ticket: ticket(generation, probe)?,
+                via_trait: flag(via_trait)?,
+            },
+            [4, 0, 0, 0] => Op::ReleaseTraitProbe,
+            [5, success, 0, 0] => Op::RecordManual {
+                success: flag(success)?,
+            },
+            [6, 0, 0, 0] => Op::Reset,
+            [7, generation, probe, 0] => Op::StillAdmits {
+                ticket: ticket(generation, probe)?,
+            },
+            [9, generation, probe, outcome] => Op::Permit {
+                ticket: ticket(generation, probe)?,
+                outcome: outcome.try_into()?,
+            },
+            _ => inner_op(numbers)?,
+        })
+    }
 }
 
-// An operation that the inner limiter takes part in.
-fn inner_op(op: u64, a: u64, b: u64, amount: u32) -> Result<Op> {
-    Ok(match (op, a, b) {
-        (8, ..) => Op::TryAdmit {
-            inner: decision(a, b)?,
-            capacity: amount,
+// Where the breaker does not read the cost, the sample has it all the same.
+fn inner_op(numbers: [u64; 4]) -> Result<Op> {
+    Ok(match numbers {
+        [8, reply, ms, capacity] => Op::TryAdmit {
+            inner: decision(reply, ms)?,
+            capacity: capacity.try_into()?,
         },
-        (10, ..) => Op::Peek {
-            inner: decision(a, b)?,
+        [10, reply, ms, _cost] => Op::Peek {
+            inner: decision(reply, ms)?,
         },
-        (11, ..) => Op::AcquireCost {
-            inner: decision(a, b)?,
+        [11, reply, ms, _cost] => Op::AcquireCost {
+            inner: decision(reply, ms)?,
         },
-        (12, ..) => Op::Reserve {
-            inner: reservation(a, b)?,
+        [12, reply, ms, _cost] => Op::Reserve {
+            inner: reservation(reply, ms)?,
         },
-        (13, ..) => Op::Available {
-            inner: decision(a, b)?,
-            count: amount,
+        [13, reply, ms, count] => Op::Available {
+            inner: decision(reply, ms)?,
+            count: count.try_into()?,
         },
-        (14, _, 0) => Op::Charge {
-            cost: a.try_into()?,
+        [14, answer, 0, _cost] => Op::Charge {
+            cost: answer.try_into()?,
         },
-        (15, 0, 0) => Op::Refund { cost: amount },
+        [15, 0, 0, cost] => Op::Refund {
+            cost: cost.try_into()?,
+        },
         _ => bail!("no such call"),
     })
 }
@@ -258,26 +278,35 @@ impl<'a> Numbers<'a> {
     fn call(&mut self) -> Result<Call> {
         let [op, now_ms, a, b, c, unused] = self.take::<6>()?;
         ensure!(unused == 0, "a number that is not used");
-        let op = match op {
-            1..=7 | 9 => own_op(op, a, b, c)?,
-            _ => inner_op(op, a, b, c.try_into()?)?,
-        };
-        Ok(Call { op, now_ms })
+        Ok(Call {
+            op: [op, a, b, c].try_into()?,
+            now_ms,
+        })
+    }
+
+    fn step(mut self) -> Result<Step<'a>> {
+        Ok(Step {
+            call: self.call()?,
+            due: self.due()?,
+            moved: self.moved()?,
+        })
     }
 
     // Between turns only the calls up to a reset are made.
-    fn call_between(&mut self) -> Result<Call> {
-        ensure!(self.0.first().is_some_and(|op| *op <= 6), "no such call");
-        self.call()
+    fn step_between(self) -> Result<Step<'a>> {
+        ensure!(
+            self.0.first().is_some_and(|op| *op <= 6),
+            "no such call between turns"
+        );
+        self.step()
     }
 
     fn start(&mut self) -> Result<Start> {
         let [now_ms, clock, limited, timeout] = self.take::<4>()?;
-        let limited = flag(limited)?;
         Ok(Start {
             now_ms,
             clock,
-            limited,
+            limited: flag(limited)?,
             timeout,
         })
     }

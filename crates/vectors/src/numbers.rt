@@ -1,13 +1,15 @@
 // The numbers of a line: decimals below 2^64, one space between them, a line feed at the end.
+// buffers reads such lines too: a library's public function promises its result by a definition, and a sample's line has none.
 use anyhow::{Context, Result, ensure};
 use std::alloc::Global;
 
+// A sign in front, which `parse` takes, is none of the sample's.
 fn number(word: &str) -> Result<u64> {
-    ensure!(!word.starts_with('+'), "a sign");
-    Ok(word.parse()?)
+    ensure!(!word.starts_with('+'), "a sign: {word:?}");
+    word.parse().context(format_args!("no number: {word:?}"))
 }
 
-// All numbers of a line of text.
+// All numbers of a line of text. No FromStr, which takes no allocator.
 pub(crate) fn all(alloc: Global, line: &str) -> Result<Vec<u64>> {
     let text = line.strip_suffix('\n').context("no line feed")?;
     text.split(' ').map(number).try_collect(alloc)

@@ -1,12 +1,10 @@
 // What is refused: each is tried before the call, and must change nothing.
 use crate::asked::{Asked, Handed, Run, Start, Turn};
 use crate::replay::Replay;
+use crossing::TOLD_UNFINISHED;
 use error::Refusal;
 use history::PLACES;
 use wait::{ENDED, LATEST, LONGEST, NEVER, Observed, TURN_WIDTH, Wait};
-
-// The number of a run whose turns or limit are used up.
-pub(crate) const UNFINISHED: u32 = 10;
 
 // Starts with a time over its bound.
 fn late_starts(start: Start) -> [Start; 2] {
@@ -67,13 +65,14 @@ fn late_turns(turn: Observed) -> [Observed; 5] {
     ]
 }
 
-// Runs of no whole turn, with a limit of 0, and of no turn, and the number that each is told.
-fn odd_runs(run: Run) -> [(Run, u32); 4] {
+// Runs of no whole turn, with a limit of 0, and of no turn, and the number that each is told. The last two end unfinished.
+fn odd_runs(turn: Turn) -> [(Run, u32); 4] {
+    let refused = Refusal::Storage.number();
     [
-        (Run { numbers: 7, ..run }, Refusal::Storage.number()),
-        (Run { numbers: 9, ..run }, Refusal::Storage.number()),
-        (Run { limit: 0, ..run }, UNFINISHED),
-        (Run { numbers: 0, ..run }, UNFINISHED),
+        (turn.run(TURN_WIDTH - 1, 1), refused),
+        (turn.run(TURN_WIDTH + 1, 1), refused),
+        (turn.run(TURN_WIDTH, 0), TOLD_UNFINISHED),
+        (turn.run(0, 1), TOLD_UNFINISHED),
     ]
 }
 
@@ -94,8 +93,7 @@ impl Replay {
     pub(crate) fn refuse_start(&mut self, start: Start) {
         self.refuse_call(Asked::Start(start));
         for late in late_starts(start) {
-            let handed = self.handed(Asked::Start(late));
-            self.refuses(handed, Refusal::Time.number());
+            self.refuses(self.handed(Asked::Start(late)), Refusal::Time.number());
         }
     }
 
@@ -117,16 +115,14 @@ impl Replay {
     // The same turn is refused alone and as a run.
     fn refuse_observed(&mut self, turn: Turn, refusal: Refusal) {
         for asked in [Asked::Turn(turn), Asked::Run(turn.run(TURN_WIDTH, 1))] {
-            let handed = self.handed(asked);
-            self.refuses(handed, refusal.number());
+            self.refuses(self.handed(asked), refusal.number());
         }
     }
 
     // Of a turn: a reply of no kind, or a time is over its bound. A turn is refused as a run too.
     pub(crate) fn refuse_turn(&mut self, turn: Turn) {
-        let run = turn.run(TURN_WIDTH, 1);
         self.refuse_wait(Asked::Turn(turn));
-        self.refuse_wait(Asked::Run(run));
+        self.refuse_wait(Asked::Run(turn.run(TURN_WIDTH, 1)));
         for kind in [0, NEVER + 1] {
             let observed = Observed {
                 kind,
@@ -137,16 +133,14 @@ impl Replay {
         for observed in late_turns(turn.observed) {
             self.refuse_observed(Turn { observed, ..turn }, Refusal::Time);
         }
-        for (run, number) in odd_runs(run) {
-            let handed = self.handed(Asked::Run(run));
-            self.refuses(handed, number);
+        for (run, number) in odd_runs(turn) {
+            self.refuses(self.handed(Asked::Run(run)), number);
         }
     }
 
     // A turn, a run and a drop of a wait that has ended.
     pub(crate) fn refuse_ended(&mut self, turn: Turn) {
         self.refuse_observed(turn, Refusal::Turn);
-        let handed = self.handed(Asked::Drop);
-        self.refuses(handed, Refusal::Turn.number());
+        self.refuses(self.handed(Asked::Drop), Refusal::Turn.number());
     }
 }

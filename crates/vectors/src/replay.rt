@@ -1,14 +1,14 @@
 // The lines of the sample, replayed on our breaker and our wait, and compared with what the sample expects.
-use crate::asked::{Asked, Call, Handed, Made, Op, Ours, Turn};
-use crate::lines::{Due, Line, Moved};
+use crate::asked::{Asked, Handed, Made, Op, Ours, Turn};
+use crate::lines::{Due, Line, Moved, Step};
 use crate::numbers;
-use crate::refusals::UNFINISHED;
 use crate::tallies::{Tallies, count};
-use breaker::{Breaker, CLOSED, Shared, Ticket, no_counts};
-use crossing::Waited;
+use anyhow::{Context, Result};
+use breaker::{Breaker, Shared, Ticket};
+use crossing::{TOLD_UNFINISHED, Waited};
 use error::Refusal;
 use history::PLACES;
-use std::alloc::{AllocError, Global};
+use std::alloc::Global;
 use trip::{CircuitBreakerBuilder, Config};
 use wait::{GRANTED, TURN_WIDTH, ended_wait};
 use waiting::Pending;
@@ -20,36 +20,12 @@ pub(crate) struct Replay {
     // what is expected: the settings, and the list in the places
     config: Config,
     list: Vec<u64>,
-    // whether the present line missed something
+    // whether the present line missed something: a flag, since a line is judged in several places, and goes on after each
     missed: bool,
     pub(crate) tallies: Tallies,
 }
 
-// Before the first build: settings of zeros, which are not sound.
-const NO_CONFIG: Config = Config {
-    kind: 0,
-    limit: 0,
-    ratio_bits: 0,
-    min_calls: 0,
-    period_ms: 0,
-    cooldown_ms: 0,
-    trials: 0,
-    required: 0,
-};
-
-// A fresh record but for its settings.
-fn fresh() -> Shared {
-    Shared {
-        state: CLOSED,
-        generation: 0,
-        run: 0,
-        counts: no_counts(),
-        open_until: 0,
-        len: 0,
-    }
-}
-
-// No wait: one that has ended.
+// No wait: one that has ended. (A ticket has no Default: one is only granted.)
 fn no_pending() -> Pending {
     Pending {
         wait: ended_wait(),
@@ -64,27 +40,20 @@ fn no_pending() -> Pending {
 fn alone(number: u32) -> Waited {
     Waited {
         number,
-        v1: 0,
-        v2: 0,
-        v3: 0,
-        v4: 0,
-        taken: 0,
+        ..Waited::default()
     }
 }
 
 impl Replay {
+    // Before the first build the settings are zeros, which are not sound.
     pub(crate) fn new(alloc: Global) -> Self {
-        let breaker = Breaker {
-            config: NO_CONFIG,
-            shared: fresh(),
-        };
         Replay {
             ours: Ours {
-                breaker,
+                breaker: Breaker::default(),
                 pending: no_pending(),
             },
             places: [0; PLACES],
-            config: NO_CONFIG,
+            config: Config::default(),
             list: Vec::new(alloc),
             missed: false,
             tallies: Tallies::default(),
@@ -162,19 +131,21 @@ impl Replay {
         self.list.clear();
         let due = Due {
             told: alone(0),
-            shared: fresh(),
+            shared: Shared::default(),
         };
         self.answers(Asked::Build(builder), due);
     }
 
     // Sets the record and the places. Every state of the sample is sound.
-    fn set(&mut self, shared: Shared, items: &[u64]) -> Result<(), AllocError> {
+    fn set(&mut self, shared: Shared, items: &[u64]) -> Result<()> {
+        let (list, behind) = self
+            .places
+            .split_at_mut_checked(items.len())
+            .context("a list over its limit")?;
+        list.copy_from_slice(items);
+        behind.fill(0);
         self.ours.breaker.shared = shared;
         self.ours.pending = no_pending();
-        self.places.fill(0);
-        for (place, item) in self.places.iter_mut().zip(items) {
-            *place = *item;
-        }
         self.list.clear();
         self.list.extend_from_slice(items)?;
         if !handle::is_sound(&self.ours.breaker, &self.places) {
@@ -184,7 +155,7 @@ impl Replay {
     }
 
     // The expected list after a call, by the line's popped and pushed alone.
-    fn follow(&mut self, moved: Moved<'_>, len: u32) -> Result<(), AllocError> {
+    fn follow(&mut self, moved: Moved<'_>, len: u32) -> Result<()> {
         let popped = moved.popped.min(self.list.len());
         self.list.drain(..popped);
         self.list.extend_from_slice(moved.pushed)?;
@@ -195,7 +166,8 @@ impl Replay {
     }
 
     // A call on the breaker alone. No breaker is asked for a charge, so none refuses it.
-    fn call(&mut self, call: Call, due: Due, moved: Moved<'_>) -> Result<(), AllocError> {
+    fn step(&mut self, step: Step<'_>) -> Result<()> {
+        let Step { call, due, moved } = step;
         let asked = Asked::Call(call);
         self.tallies.count_call(call.op);
         if !matches!(call.op, Op::Charge { .. }) {
@@ -211,8 +183,8 @@ impl Replay {
         let (one, two) = (TURN_WIDTH, 2 * TURN_WIDTH);
         let refused = Refusal::Turn.number();
         for (numbers, limit, number) in [
-            (one, 2, UNFINISHED),
-            (two, 1, UNFINISHED),
+            (one, 2, TOLD_UNFINISHED),
+            (two, 1, TOLD_UNFINISHED),
             (two, 2, refused),
         ] {
             count(&mut self.tallies.runs);
@@ -251,7 +223,7 @@ impl Replay {
         self.refuse_ended(granted);
     }
 
-    fn replay_line(&mut self, line: Line<'_>) -> Result<(), AllocError> {
+    fn replay_line(&mut self, line: Line<'_>) -> Result<()> {
         match line {
             Line::Build(builder, config) => {
                 count(&mut self.tallies.builds);
@@ -261,9 +233,9 @@ impl Replay {
                 count(&mut self.tallies.states);
                 self.set(shared, items)?;
             }
-            Line::Call(call, due, moved) => {
+            Line::Step(step) => {
                 count(&mut self.tallies.steps);
-                self.call(call, due, moved)?;
+                self.step(step)?;
             }
             Line::Start(start, due) => {
                 count(&mut self.tallies.starts);
@@ -278,24 +250,19 @@ impl Replay {
                 count(&mut self.tallies.drops);
                 self.drop_wait(due);
             }
-            Line::Between(call, due, moved) => {
+            Line::Between(step) => {
                 count(&mut self.tallies.calls_between);
-                self.call(call, due, moved)?;
+                self.step(step)?;
             }
         }
         Ok(())
     }
 
-    // Replays a line of text, and says whether it came to what it expects. One that is none of the sample's does not.
-    pub(crate) fn replay(&mut self, alloc: Global, text: &str) -> Result<bool, AllocError> {
+    // Replays a line of text, and says whether it came to what it expects. One that is none of the sample's is an error.
+    pub(crate) fn replay(&mut self, alloc: Global, text: &str) -> Result<bool> {
         self.missed = false;
-        let Ok(numbers) = numbers::all(alloc, text) else {
-            return Ok(false);
-        };
-        let Ok(line) = Line::try_from(numbers.as_slice()) else {
-            return Ok(false);
-        };
-        self.replay_line(line)?;
+        let numbers = numbers::all(alloc, text)?;
+        self.replay_line(numbers.as_slice().try_into()?)?;
         Ok(!self.missed)
     }
 }

@@ -1,6 +1,6 @@
 // What the program counts, and the names under which it shows it.
 use crate::asked::Op;
-use std::io;
+use std::fmt;
 
 #[derive(Clone, Copy, Default)]
 pub(crate) struct Tallies {
@@ -34,7 +34,7 @@ pub(crate) struct Tallies {
     pub(crate) differences: u64,
 }
 
-// Counts one more.
+// Counts one more. buffers has it too: a library's function for it would be longer than this.
 pub(crate) fn count(tally: &mut u64) {
     *tally = tally.saturating_add(1);
 }
@@ -67,8 +67,10 @@ impl Tallies {
             count(tally);
         }
     }
+}
 
-    fn show_calls(&self, rt: &impl Print) -> io::Result<()> {
+impl fmt::Display for Tallies {
+    fn fmt<W: fmt::Write>(&self, f: &mut fmt::Formatter<W>) -> fmt::Result {
         let named = [
             ("admit_as", self.admit_as),
             ("settle", self.settle),
@@ -92,20 +94,15 @@ impl Tallies {
             ("runs", self.runs),
         ];
         for (name, tally) in named {
-            println!(rt; "{name} {tally}")?;
+            writeln!(f, "{name} {tally}")?;
         }
-        Ok(())
-    }
-
-    pub(crate) fn show(&self, rt: &impl Print) -> io::Result<()> {
-        self.show_calls(rt)?;
         for number in [1usize, 3, 4, 6, 8, 9, 10, 11] {
-            println!(rt; "waits told {number} {}", self.waits_told[number])?;
+            writeln!(f, "waits told {number} {}", self.waits_told[number])?;
         }
-        println!(rt; "steps {}", self.steps)?;
-        println!(rt; "builds {}", self.builds)?;
-        println!(rt; "states {}", self.states)?;
-        println!(rt; "refusals {}", self.refusals)?;
-        println!(rt; "differences {}", self.differences)
+        writeln!(f, "steps {}", self.steps)?;
+        writeln!(f, "builds {}", self.builds)?;
+        writeln!(f, "states {}", self.states)?;
+        writeln!(f, "refusals {}", self.refusals)?;
+        writeln!(f, "differences {}", self.differences)
     }
 }

@@ -1,5 +1,5 @@
 -- An answer of a wait is known by what it tells. Assumes nothing.
-use Rattle.std.proofs.Common.{ℕ, ◌≡◌, refl, ap, ◌∙◌, List, [], ◌∷◌, if◌then◌else◌, Result, Ok, Err, eqb}
+use Rattle.std.proofs.Common.{ℕ, ◌≡◌, refl, ap, ◌∙◌, List, [], ◌∷◌, if◌then◌else◌, Option, Some, None, Result, Ok, Err, Continue, Break, eqb}
 use Rattle.error.specs.declared.Refusal.{Refusal}
 use Rattle.error.proofs.OneToOne.{one, read, read-refused, refused-one, at}
 use Rattle.wait.specs.declared.Wait.{Wait}
@@ -7,16 +7,10 @@ use Rattle.wait.specs.declared.Act.{Act}
 use Rattle.wait.specs.declared.Act.TheVariants as ActIs
 use Rattle.wait.specs.declared.Ending.{Ending}
 use Rattle.wait.specs.declared.Ending.TheVariants as EndingIs
-use Rattle.wait.specs.declared.Turned.{Turned}
-use Rattle.wait.specs.declared.Turned.TheVariants as TurnedIs
-use Rattle.wait.specs.declared.Ran.{Ran}
-use Rattle.wait.specs.declared.Ran.TheVariants as RanIs
-use Rattle.wait.specs.declared.Turning.{Turning}
-use Rattle.wait.specs.declared.Running.{Running}
-use Rattle.wait.specs.declared.Dropping.{Dropping}
-use Rattle.wait.specs.Answers.{turned_told, ran_told, started_told, dropped_told}
-use Rattle.wait.specs.Manner.{WaitAfter, turned_as, tell_turn, dropped_as, tell_drop}
-use Rattle.wait.specs.Run.{ran_as, RunAfter, tell_run}
+use Rattle.wait.specs.declared.AndWait.{AndWait}
+use Rattle.wait.specs.Answers.{Turned, turned_told, ran_told, started_told, dropped_told}
+use Rattle.wait.specs.Manner.{WaitAfter, and_wait, tell_turn, tell_drop}
+use Rattle.wait.specs.Run.{Running, ran_as, RunAfter, tell_run}
 
 -- what the host is to do
 abbrev pub act_in : List ℕ → Act
@@ -27,42 +21,42 @@ act_in vs =
     else ActIs.LookAgain
 
 abbrev good_turned : List ℕ → Result Turned Refusal
-good_turned [] = Ok (TurnedIs.Ends EndingIs.Done)
-good_turned (k ∷ vs) = Ok (TurnedIs.Next (act_in (k ∷ vs)))
+good_turned [] = Ok (Break EndingIs.Done)
+good_turned (k ∷ vs) = Ok (Continue (act_in (k ∷ vs)))
 
 abbrev bad_ending : ℕ → List ℕ → Ending
 bad_ending n vs = if eqb n 9 then EndingIs.Deadline (at vs 0) else EndingIs.Never
 
 abbrev bad_turned : ℕ → List ℕ → Result Turned Refusal
-bad_turned n vs = Ok (TurnedIs.Ends (bad_ending n vs))
+bad_turned n vs = Ok (Break (bad_ending n vs))
 
 pub turned-one : (a b : Result Turned Refusal) → turned_told a ≡ turned_told b → a ≡ b
 turned-one = one turned_told (read good_turned bad_turned Err) back
   where
     back : (a : Result Turned Refusal) → read good_turned bad_turned Err (turned_told a) ≡ a
-    back (Ok (TurnedIs.Next (ActIs.Sleep n))) = refl
-    back (Ok (TurnedIs.Next (ActIs.SleepUnlessResumed n e))) = refl
-    back (Ok (TurnedIs.Next ActIs.Yield)) = refl
-    back (Ok (TurnedIs.Next ActIs.LookAgain)) = refl
-    back (Ok (TurnedIs.Ends EndingIs.Done)) = refl
-    back (Ok (TurnedIs.Ends (EndingIs.Deadline n))) = refl
-    back (Ok (TurnedIs.Ends EndingIs.Never)) = refl
+    back (Ok (Continue (ActIs.Sleep n))) = refl
+    back (Ok (Continue (ActIs.SleepUnlessResumed n e))) = refl
+    back (Ok (Continue ActIs.Yield)) = refl
+    back (Ok (Continue ActIs.LookAgain)) = refl
+    back (Ok (Break EndingIs.Done)) = refl
+    back (Ok (Break (EndingIs.Deadline n))) = refl
+    back (Ok (Break EndingIs.Never)) = refl
     back (Err r) = read-refused good_turned bad_turned Err r
 
-abbrev bad_ran : ℕ → List ℕ → Result Ran Refusal
-bad_ran n vs = if eqb n 10 then Ok RanIs.Unfinished else Ok (RanIs.Ends (bad_ending n vs))
+abbrev bad_ran : ℕ → List ℕ → Result (Option Ending) Refusal
+bad_ran n vs = if eqb n 10 then Ok None else Ok (Some (bad_ending n vs))
 
-abbrev good_ran : List ℕ → Result Ran Refusal
-good_ran vs = Ok (RanIs.Ends EndingIs.Done)
+abbrev good_ran : List ℕ → Result (Option Ending) Refusal
+good_ran vs = Ok (Some EndingIs.Done)
 
-pub ran-one : (a b : Result Ran Refusal) → ran_told a ≡ ran_told b → a ≡ b
+pub ran-one : (a b : Result (Option Ending) Refusal) → ran_told a ≡ ran_told b → a ≡ b
 ran-one = one ran_told (read good_ran bad_ran Err) back
   where
-    back : (a : Result Ran Refusal) → read good_ran bad_ran Err (ran_told a) ≡ a
-    back (Ok (RanIs.Ends EndingIs.Done)) = refl
-    back (Ok (RanIs.Ends (EndingIs.Deadline n))) = refl
-    back (Ok (RanIs.Ends EndingIs.Never)) = refl
-    back (Ok RanIs.Unfinished) = refl
+    back : (a : Result (Option Ending) Refusal) → read good_ran bad_ran Err (ran_told a) ≡ a
+    back (Ok (Some EndingIs.Done)) = refl
+    back (Ok (Some (EndingIs.Deadline n))) = refl
+    back (Ok (Some EndingIs.Never)) = refl
+    back (Ok None) = refl
     back (Err r) = read-refused good_ran bad_ran Err r
 
 abbrev good_started : List ℕ → Result Wait Refusal
@@ -87,22 +81,22 @@ dropped-one = one dropped_told (read good_dropped (λ n vs. good_dropped vs) Err
 
 -- ---- a whole result is known by what it tells
 
-pub turning-one : (w : Wait) (a b : Result Turning Refusal) → tell_turn w a ≡ tell_turn w b → a ≡ b
+pub turning-one : (w : Wait) (a b : Result (AndWait Turned) Refusal) → tell_turn w a ≡ tell_turn w b → a ≡ b
 turning-one w (Ok a) (Ok b) e =
     let told : a.answer ≡ b.answer = cc (turned-one (Ok a.answer) (Ok b.answer) (ap (λ (x : WaitAfter). x.told) e)) in
-    ap (λ (x : Turned). Ok (turned_as x a.wait)) told ∙ ap (λ (x : WaitAfter). Ok (turned_as b.answer x.wait)) e
+    ap (λ (x : Turned). Ok (and_wait x a.wait)) told ∙ ap (λ (x : WaitAfter). Ok (and_wait b.answer x.wait)) e
 turning-one w (Ok a) (Err r) e = cc (turned-one (Ok a.answer) (Err r) (ap (λ (x : WaitAfter). x.told) e))
 turning-one w (Err r) (Ok b) e = cc (turned-one (Err r) (Ok b.answer) (ap (λ (x : WaitAfter). x.told) e))
 turning-one w (Err r) (Err q) e = ap Err (refused-one r q (ap (λ (x : WaitAfter). x.told) e))
 
 pub running-one : (a b : Running) → tell_run a ≡ tell_run b → a ≡ b
 running-one a b e =
-    ap (λ (x : Result Ran Refusal). ran_as x a.taken a.wait) (ran-one a.answer b.answer (ap (λ (x : RunAfter). x.told) e)) ∙ ap (λ (x : RunAfter). ran_as b.answer x.taken x.wait) e
+    ap (λ (x : Result (Option Ending) Refusal). ran_as x a.answer.taken a.wait) (ran-one a.answer.course b.answer.course (ap (λ (x : RunAfter). x.told) e)) ∙ ap (λ (x : RunAfter). ran_as b.answer.course x.taken x.wait) e
 
-pub dropping-one : (w : Wait) (a b : Result Dropping Refusal) → tell_drop w a ≡ tell_drop w b → a ≡ b
+pub dropping-one : (w : Wait) (a b : Result (AndWait ℕ) Refusal) → tell_drop w a ≡ tell_drop w b → a ≡ b
 dropping-one w (Ok a) (Ok b) e =
-    let told : a.back ≡ b.back = cc (dropped-one (Ok a.back) (Ok b.back) (ap (λ (x : WaitAfter). x.told) e)) in
-    ap (λ (x : ℕ). Ok (dropped_as x a.wait)) told ∙ ap (λ (x : WaitAfter). Ok (dropped_as b.back x.wait)) e
-dropping-one w (Ok a) (Err r) e = cc (dropped-one (Ok a.back) (Err r) (ap (λ (x : WaitAfter). x.told) e))
-dropping-one w (Err r) (Ok b) e = cc (dropped-one (Err r) (Ok b.back) (ap (λ (x : WaitAfter). x.told) e))
+    let told : a.answer ≡ b.answer = cc (dropped-one (Ok a.answer) (Ok b.answer) (ap (λ (x : WaitAfter). x.told) e)) in
+    ap (λ (x : ℕ). Ok (and_wait x a.wait)) told ∙ ap (λ (x : WaitAfter). Ok (and_wait b.answer x.wait)) e
+dropping-one w (Ok a) (Err r) e = cc (dropped-one (Ok a.answer) (Err r) (ap (λ (x : WaitAfter). x.told) e))
+dropping-one w (Err r) (Ok b) e = cc (dropped-one (Err r) (Ok b.answer) (ap (λ (x : WaitAfter). x.told) e))
 dropping-one w (Err r) (Err q) e = ap Err (refused-one r q (ap (λ (x : WaitAfter). x.told) e))

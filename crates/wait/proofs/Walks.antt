@@ -1,5 +1,5 @@
 -- A run in any manner, turn by turn, and by the groups of eight numbers that it reads. Assumes nothing.
-use Rattle.std.proofs.Common.{ℕ, zero, suc, ◌<◌, ◌≤◌, get_or, ◌+◌, ◌/◌, ◌%◌, min, ◌≡◌, refl, sym, ap, ◌∙◌, Bool, true, false, not, ◌&&◌, ◌||◌, List, [], ◌∷◌, length, take, drop, map, Result, Ok, Err, add-one, arith}
+use Rattle.std.proofs.Common.{ℕ, zero, suc, ◌<◌, ◌≤◌, get_or, ◌+◌, ◌/◌, ◌%◌, min, ◌≡◌, refl, sym, ap, ◌∙◌, Bool, true, false, not, ◌&&◌, ◌||◌, List, [], ◌∷◌, length, take, drop, map, Some, Result, Ok, Err, Continue, Break, add-one, arith}
 use Rattle.std.specs.Simd.{first_chunks}
 use Rattle.std.proofs.lemmas.List.{get_or-take, take-map, take_min}
 use Rattle.std.proofs.Math.ListN.{drop_of_length-le}
@@ -12,14 +12,11 @@ use Rattle.wait.specs.declared.Act.{Act}
 use Rattle.wait.specs.declared.Ending.{Ending}
 use Rattle.wait.specs.declared.Move.{Move}
 use Rattle.wait.specs.declared.Move.TheVariants.{Goes, Ends}
-use Rattle.wait.specs.declared.Turned.{Turned}
-use Rattle.wait.specs.declared.Turned.TheVariants as TurnedIs
-use Rattle.wait.specs.declared.Turning.{Turning}
-use Rattle.wait.specs.declared.Ran.TheVariants as RanIs
-use Rattle.wait.specs.declared.Running.{Running}
+use Rattle.wait.specs.declared.AndWait.{AndWait}
+use Rattle.wait.specs.Answers.{Turned}
 use Rattle.wait.specs.Turns.{turn_in_bounds, wait_in_bounds}
 use Rattle.wait.specs.Manner.{Manner, in_order, tested, leaves, turned}
-use Rattle.wait.specs.Run.{ran_as, uncounted, one_step_more, onward, stops, steps, turn_of, turns_of, runs}
+use Rattle.wait.specs.Run.{Running, ran_as, uncounted, one_step_more, onward, stops, steps, turn_of, turns_of, runs}
 
 -- ---- the tests of a turn
 
@@ -41,11 +38,11 @@ in-order-cases P false false f a g h = h refl refl
 
 -- a turn that was taken, and the run of the turns after it
 abbrev pub going : Turned → Wait → (Wait → Running) → Running
-going (TurnedIs.Next act) w more = one_step_more (more w)
-going (TurnedIs.Ends e) w more = ran_as (Ok (RanIs.Ends e)) 1 w
+going (Continue act) w more = one_step_more (more w)
+going (Break e) w more = ran_as (Ok (Some e)) 1 w
 
 -- the same of a turn that may be refused
-abbrev pub taking : Wait → Result Turning Refusal → (Wait → Running) → Running
+abbrev pub taking : Wait → Result (AndWait Turned) Refusal → (Wait → Running) → Running
 taking w (Ok x) more = going x.answer x.wait more
 taking w (Err r) more = uncounted w r
 
@@ -59,11 +56,11 @@ unfolding steps turned
 by-turns m t ts w =
     let more = λ (v : Wait). steps m ts v in
     ap (λ (x : Running). tested m (uncounted w) x w t) (sym (leaves-onward (m.moves w t) w more))
-    ∙ sym (map-in_order (λ (x : Result Turning Refusal). taking w x more) Err (Ok (leaves (m.moves w t))) (m.ended w || not (m.knows t.kind)) (not (wait_in_bounds w && turn_in_bounds t)))
+    ∙ sym (map-in_order (λ (x : Result (AndWait Turned) Refusal). taking w x more) Err (Ok (leaves (m.moves w t))) (m.ended w || not (m.knows t.kind)) (not (wait_in_bounds w && turn_in_bounds t)))
 
 -- what is left of a run, n turns on
 abbrev pub turns_on : ℕ → Running → Running
-turns_on n r = ran_as r.answer (n + r.taken) r.wait
+turns_on n r = ran_as r.answer.course (n + r.answer.taken) r.wait
 
 -- ---- the numbers of its turns
 
@@ -86,19 +83,19 @@ module _ (m : Manner) (gs : List (List ℕ)) where
   unfolding steps
   ahead-end n w l g = rw drop_of_length-le (ap (λ (k : ℕ). ran_as (stops m w) k w) (omega arith))
 
-  module _ (n : ℕ) (w : Wait) (l : n < length gs) (x : Result Turning Refusal) (is : x ≡ turned m w (turn_of (get_or gs n []))) where
+  module _ (n : ℕ) (w : Wait) (l : n < length gs) (x : Result (AndWait Turned) Refusal) (is : x ≡ turned m w (turn_of (get_or gs n []))) where
     next : ahead n w ≡ turns_on n (taking w x (λ v. steps m (map turn_of (drop (n + 1) gs)) v))
     next = rw (drop-cons gs n [] l, by-turns, is) (simp add-one)
 
     pub ahead-refused : (r : Refusal) → x ≡ Err r → ahead n w ≡ ran_as (Err r) n w
     ahead-refused r e = next ∙ rw e (ap (λ (k : ℕ). ran_as (Err r) k w) (omega arith))
 
-    pub ahead-next : (y : Turning) (act : Act) → x ≡ Ok y → y.answer ≡ TurnedIs.Next act → ahead n w ≡ ahead (n + 1) y.wait
+    pub ahead-next : (y : AndWait Turned) (act : Act) → x ≡ Ok y → y.answer ≡ Continue act → ahead n w ≡ ahead (n + 1) y.wait
     ahead-next y act e a =
         let more : Running = steps m (map turn_of (drop (n + 1) gs)) y.wait in
-        next ∙ rw (e, a) (ap (λ (k : ℕ). ran_as more.answer k more.wait) (omega arith))
+        next ∙ rw (e, a) (ap (λ (k : ℕ). ran_as more.answer.course k more.wait) (omega arith))
 
-    pub ahead-ends : (y : Turning) (e : Ending) → x ≡ Ok y → y.answer ≡ TurnedIs.Ends e → ahead n w ≡ ran_as (Ok (RanIs.Ends e)) (n + 1) y.wait
+    pub ahead-ends : (y : AndWait Turned) (e : Ending) → x ≡ Ok y → y.answer ≡ Break e → ahead n w ≡ ran_as (Ok (Some e)) (n + 1) y.wait
     ahead-ends y e q a = next ∙ rw (q, a) refl
 
 -- a run of whole turns is a run over as many groups as the limit says
@@ -107,6 +104,6 @@ pub ahead-start : (m : Manner) (w : Wait) (xs : List ℕ) (limit : ℕ) (gs : Li
 unfolding runs
 ahead-start m w xs limit gs g e =
     let all = steps m (take limit (turns_of (length xs / 8) xs)) w in
-    rw (take_min, g, ← take-map, turns-chunks, eq-eqb _ _ e) (ap (λ (k : ℕ). ran_as all.answer k all.wait) (omega arith))
+    rw (take_min, g, ← take-map, turns-chunks, eq-eqb _ _ e) (ap (λ (k : ℕ). ran_as all.answer.course k all.wait) (omega arith))
 
 pub ruleset run_steps = (ahead-start, ahead-end, ahead-refused, ahead-next, ahead-ends)

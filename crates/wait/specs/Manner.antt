@@ -8,11 +8,9 @@ use Rattle.wait.specs.declared.Wait.{Wait}
 use Rattle.wait.specs.declared.Observed.{Observed}
 use Rattle.wait.specs.declared.Move.{Move}
 use Rattle.wait.specs.declared.Move.TheVariants.{Goes, Ends}
-use Rattle.wait.specs.declared.Turned.{Turned}
-use Rattle.wait.specs.declared.Turned.TheVariants as TurnedIs
-use Rattle.wait.specs.declared.Turning.{Turning}
-use Rattle.wait.specs.declared.Dropping.{Dropping}
-use Rattle.wait.specs.Answers.{turned_told, dropped_told}
+use Rattle.std.specs.declared.ops.ControlFlow.TheVariants.{Continue, Break}
+use Rattle.wait.specs.declared.AndWait.{AndWait}
+use Rattle.wait.specs.Answers.{Turned, turned_told, dropped_told}
 use Rattle.wait.specs.Turns.{ended_wait, turn_in_bounds, wait_in_bounds}
 
 -- what sets a manner apart: the waits that have ended, those that hold a unit, the reply kinds that it knows, and what a turn that passes its
@@ -39,14 +37,14 @@ tested_alone m refusal answer w = in_order (m.ended w) (not (wait_in_bounds w)) 
 
 -- ---- a turn. One that is refused leaves the wait.
 
-abbrev pub turned_as : Turned → Wait → Turning
-turned_as answer w = record { answer = answer; wait = w }
+abbrev pub and_wait : {A : Type 0} → A → Wait → AndWait A
+and_wait answer w = record { answer = answer; wait = w }
 
-abbrev pub leaves : Move → Turning
-leaves (Goes act w) = turned_as (TurnedIs.Next act) w
-leaves (Ends e) = turned_as (TurnedIs.Ends e) ended_wait
+abbrev pub leaves : Move → AndWait Turned
+leaves (Goes act w) = and_wait (Continue act) w
+leaves (Ends e) = and_wait (Break e) ended_wait
 
-unfoldable pub turned : Manner → Wait → Observed → Result Turning Refusal
+unfoldable pub turned : Manner → Wait → Observed → Result (AndWait Turned) Refusal
 turned m w t = tested m Err (Ok (leaves (m.moves w t))) w t
 
 -- what a call on a wait leaves: what was told, and the wait, which is that handed in where it was refused
@@ -57,18 +55,15 @@ pub record WaitAfter : Type 0 where
 abbrev pub wait_after : Told → Wait → WaitAfter
 wait_after t w = record { told = t; wait = w }
 
-abbrev pub tell_turn : Wait → Result Turning Refusal → WaitAfter
+abbrev pub tell_turn : Wait → Result (AndWait Turned) Refusal → WaitAfter
 tell_turn w (Ok x) = wait_after (turned_told (Ok x.answer)) x.wait
 tell_turn w (Err r) = wait_after (refused r) w
 
 -- ---- "a dropped wait gives back a held grant"
 
-abbrev pub dropped_as : ℕ → Wait → Dropping
-dropped_as back w = record { back = back; wait = w }
+unfoldable pub dropped : Manner → Wait → Result (AndWait ℕ) Refusal
+dropped m w = tested_alone m Err (Ok (and_wait (bit (m.holds w)) ended_wait)) w
 
-unfoldable pub dropped : Manner → Wait → Result Dropping Refusal
-dropped m w = tested_alone m Err (Ok (dropped_as (bit (m.holds w)) ended_wait)) w
-
-abbrev pub tell_drop : Wait → Result Dropping Refusal → WaitAfter
-tell_drop w (Ok x) = wait_after (dropped_told (Ok x.back)) x.wait
+abbrev pub tell_drop : Wait → Result (AndWait ℕ) Refusal → WaitAfter
+tell_drop w (Ok x) = wait_after (dropped_told (Ok x.answer)) x.wait
 tell_drop w (Err r) = wait_after (refused r) w

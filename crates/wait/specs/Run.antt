@@ -1,5 +1,5 @@
 -- "Each run of turns has a limit and reports how many turns it took, which equals the steps of these rules." In any manner. Definitions only.
-use Rattle.std.specs.Prelude.{ℕ, zero, suc, ◌/◌, ◌%◌, Bool, List, [], ◌∷◌, eqb, length, take, drop, get_or, if◌then◌else◌, Result, Ok, Err}
+use Rattle.std.specs.Prelude.{ℕ, zero, suc, ◌/◌, ◌%◌, Bool, List, [], ◌∷◌, eqb, length, take, drop, get_or, if◌then◌else◌, Option, Some, None, Result, Ok, Err}
 use Rattle.error.specs.Told.{Told}
 use Rattle.error.specs.declared.Refusal.{Refusal}
 use Rattle.error.specs.declared.Refusal.TheVariants as RefusalIs
@@ -7,20 +7,23 @@ use Rattle.wait.specs.declared.Wait.{Wait}
 use Rattle.wait.specs.declared.Observed.{Observed}
 use Rattle.wait.specs.declared.Move.{Move}
 use Rattle.wait.specs.declared.Move.TheVariants.{Goes, Ends}
-use Rattle.wait.specs.declared.Ran.{Ran}
-use Rattle.wait.specs.declared.Ran.TheVariants as RanIs
-use Rattle.wait.specs.declared.Running.{Running}
+use Rattle.wait.specs.declared.Ending.{Ending}
+use Rattle.wait.specs.declared.AndWait.{AndWait}
+use Rattle.wait.specs.declared.Progress.{Progress}
 use Rattle.wait.specs.Answers.{ran_told}
 use Rattle.wait.specs.Turns.{ended_wait}
-use Rattle.wait.specs.Manner.{Manner, tested, tested_alone}
+use Rattle.wait.specs.Manner.{Manner, tested, tested_alone, and_wait}
 
--- what a run comes to: its answer, the turns that it took, and the wait reached
-abbrev pub ran_as : Result Ran Refusal → ℕ → Wait → Running
-ran_as answer taken w = record { answer = answer; taken = taken; wait = w }
+-- what a run comes to: its course, the turns that it took, and the wait reached
+abbrev pub Running : Type 0
+Running = AndWait (Progress Ending)
+
+abbrev pub ran_as : Result (Option Ending) Refusal → ℕ → Wait → Running
+ran_as course taken w = and_wait (record { course = course; taken = taken }) w
 
 -- one step more
 abbrev pub one_step_more : Running → Running
-one_step_more r = ran_as r.answer (suc r.taken) r.wait
+one_step_more r = ran_as r.answer.course (suc r.answer.taken) r.wait
 
 -- ---- the steps
 
@@ -29,12 +32,12 @@ abbrev pub uncounted : Wait → Refusal → Running
 uncounted w r = ran_as (Err r) 0 w
 
 -- no turn is left, or the limit is reached: 11 and 1 for the wait alone, else 10
-unfoldable pub stops : Manner → Wait → Result Ran Refusal
-stops m w = tested_alone m Err (Ok RanIs.Unfinished) w
+unfoldable pub stops : Manner → Wait → Result (Option Ending) Refusal
+stops m w = tested_alone m Err (Ok None) w
 
 abbrev pub onward : Move → (Wait → Running) → Running
 onward (Goes act w) more = one_step_more (more w)
-onward (Ends e) more = ran_as (Ok (RanIs.Ends e)) 1 ended_wait
+onward (Ends e) more = ran_as (Ok (Some e)) 1 ended_wait
 
 unfoldable pub steps : Manner → List Observed → Wait → Running
 steps m [] w = ran_as (stops m w) 0 w
@@ -77,4 +80,4 @@ pub record RunAfter : Type 0 where
   pub wait : Wait
 
 abbrev pub tell_run : Running → RunAfter
-tell_run r = record { told = ran_told r.answer; taken = r.taken; wait = r.wait }
+tell_run r = record { told = ran_told r.answer.course; taken = r.answer.taken; wait = r.wait }

@@ -15,13 +15,11 @@ fn looking(limited: u64, deadline: u64) -> Wait
         phase: LOOKING,
         limited,
         deadline,
-        seen: 0,
-        due: 0,
-        zeros: 0,
+        ..Wait::default()
     }
 }
 
-// A wait from this clock on, with a timeout or without.
+// A wait from this clock on, with a timeout or without. The timeout is held to its bound even where it doesn't limit, so no Option could carry it.
 // Ruled out: a deadline that wraps; one that leaves a time over its bound to the first turn.
 #[tactic(auto, unfolding(crate::specs::Turns::started))]
 pub fn start(clock: u64, limited: bool, timeout: u64) -> Result<Wait, Refusal>

@@ -4,13 +4,18 @@
 
 mod begin;
 mod bounds;
+mod calls;
+mod leaving;
 mod manner;
 mod retries;
 
 pub use begin::start;
+pub use calls::{drop_wait, run, turn};
 use error::Refusal;
-pub use manner::{drop_as, ended_wait, in_order, ran_as, stop};
+pub use leaving::ended_wait;
+pub use manner::{Manner, Tested};
 pub use retries::{remaining, retry, sleeping};
+use std::ops::ControlFlow;
 
 // The phases of a wait. Any other number is an ended wait too: the record is the C caller's own, and may hold any.
 pub const ENDED: u64 = 0;
@@ -25,9 +30,9 @@ pub const LONGEST: u64 = 0x4000_0000_0000_0000;
 // What no deadline exceeds, and a due only by what was seen: 2^63 ns.
 pub const LATEST: u64 = 0x8000_0000_0000_0000;
 
-// A wait between two turns. Made of any numbers: each call tests them.
+// A wait between two turns. Made of any numbers: each call tests them. The default has ended.
 #[repr(C)]
-#[derive(Clone, Copy, Debug, PartialEq, Eq)]
+#[derive(Clone, Copy, Debug, Default, PartialEq, Eq)]
 pub struct Wait {
     // looking, holding a grant, or ended
     pub phase: u64,
@@ -42,7 +47,7 @@ pub struct Wait {
     pub zeros: u64,
 }
 
-// The kinds of a reply. Numbers, since the C caller's own record may hold any.
+// The kinds of a reply. Numbers, since the C caller's own record may hold any; not those of a decision, which are another table's.
 pub const GRANTED: u64 = 1;
 
 pub const RETRY: u64 = 2;
@@ -52,7 +57,7 @@ pub const NEVER: u64 = 3;
 // How many numbers a turn is.
 pub const TURN_WIDTH: usize = 8;
 
-// What the host read for a turn; of each pair the first was read before the limiter was asked.
+// What the host read for a turn, as C hands it; of each pair the first was read before the limiter was asked.
 #[repr(C)]
 #[derive(Clone, Copy)]
 pub struct Observed {
@@ -77,7 +82,7 @@ pub enum Act {
     LookAgain,
 }
 
-// How a wait ends. A deadline says how much to give back, 0 or 1.
+// How a wait ends. A deadline says how much to give back, 0 or 1: an amount of the limiter's units, told as a number.
 #[derive(Clone, Copy)]
 pub enum Ending {
     Done,
@@ -85,45 +90,26 @@ pub enum Ending {
     Never,
 }
 
-// What a turn that is not refused comes to: something to do and the wait after it, or the end.
+// What a turn that is not refused comes to: something to do and the wait after it, or the end. An enum of its own, since an end has no wait.
 #[derive(Clone, Copy)]
 pub enum Move {
     Goes(Act, Wait),
     Ends(Ending),
 }
 
-// What a turn that is not refused tells: what to do next, or how the wait ends.
-#[derive(Clone, Copy)]
-pub enum Turned {
-    Next(Act),
-    Ends(Ending),
-}
+// What a turn that is not refused tells: to go on so, or how the wait ends.
+pub type Turned = ControlFlow<Ending, Act>;
 
-// What a run of turns came to. Unfinished: its limit or its turns are used up.
+// An answer, and the wait after it.
 #[derive(Clone, Copy)]
-pub enum Ran {
-    Ends(Ending),
-    Unfinished,
-}
-
-// What a turn that is not refused tells, and the wait after it.
-#[derive(Clone, Copy)]
-pub struct Turning {
-    pub answer: Turned,
+pub struct AndWait<A> {
+    pub answer: A,
     pub wait: Wait,
 }
 
-// A run: its answer, the turns that it took, and the wait reached.
+// What a run of turns came to, and the turns that it took. None: its limit or its turns are used up.
 #[derive(Clone, Copy)]
-pub struct Running {
-    pub answer: Result<Ran, Refusal>,
+pub struct Progress<E> {
+    pub course: Result<Option<E>, Refusal>,
     pub taken: u64,
-    pub wait: Wait,
-}
-
-// How much a dropped wait gives back, 0 or 1, and the ended wait.
-#[derive(Clone, Copy)]
-pub struct Dropping {
-    pub back: u64,
-    pub wait: Wait,
 }

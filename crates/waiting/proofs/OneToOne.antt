@@ -1,5 +1,5 @@
 -- An answer of a wait before a breaker is known by what it tells. Assumes nothing.
-use Rattle.std.proofs.Common.{ℕ, ◌≡◌, refl, ap, List, [], ◌∷◌, if◌then◌else◌, Result, Ok, Err, eqb}
+use Rattle.std.proofs.Common.{ℕ, ◌≡◌, refl, ap, List, [], ◌∷◌, if◌then◌else◌, Option, Some, None, Result, Ok, Err, Continue, Break, eqb}
 use Rattle.error.specs.Told.{Told}
 use Rattle.error.specs.declared.Refusal.{Refusal}
 use Rattle.error.proofs.OneToOne.{one, read, read-refused, at}
@@ -11,11 +11,7 @@ use Rattle.wait.specs.declared.Act.TheVariants as ActIs
 use Rattle.wait.proofs.OneToOne.{act_in}
 use Rattle.waiting.specs.declared.Completed.{Completed}
 use Rattle.waiting.specs.declared.Completed.TheVariants as CompletedIs
-use Rattle.waiting.specs.declared.Awaited.{Awaited}
-use Rattle.waiting.specs.declared.Awaited.TheVariants as AwaitedIs
-use Rattle.waiting.specs.declared.Course.{Course}
-use Rattle.waiting.specs.declared.Course.TheVariants as CourseIs
-use Rattle.waiting.specs.Answers.{begun_told, completed_told, awaited_told, course_told}
+use Rattle.waiting.specs.Answers.{begun_told, completed_told, Awaited, awaited_told, course_told}
 
 -- a start tells no more than a verdict does
 pub begun-one : (a b : Result (Unit {0}) NotAdmitted) → begun_told a ≡ begun_told b → a ≡ b
@@ -44,38 +40,38 @@ pub completed-one : (a b : Completed) → completed_told a ≡ completed_told b 
 completed-one = one completed_told completed_in completed-back
 
 abbrev good_awaited : List ℕ → Result Awaited Refusal
-good_awaited vs = Ok (if eqb (at vs 0) 0 then AwaitedIs.Ends (admitted vs) else AwaitedIs.Next (act_in vs))
+good_awaited vs = Ok (if eqb (at vs 0) 0 then Break (admitted vs) else Continue (act_in vs))
 
 abbrev more_awaited : ℕ → List ℕ → Result Awaited Refusal
-more_awaited n vs = Ok (AwaitedIs.Ends (more n vs))
+more_awaited n vs = Ok (Break (more n vs))
 
 pub awaited-one : (a b : Result Awaited Refusal) → awaited_told a ≡ awaited_told b → a ≡ b
 awaited-one = one awaited_told (read good_awaited more_awaited Err) back
   where
     back : (a : Result Awaited Refusal) → read good_awaited more_awaited Err (awaited_told a) ≡ a
-    back (Ok (AwaitedIs.Next (ActIs.Sleep n))) = refl
-    back (Ok (AwaitedIs.Next (ActIs.SleepUnlessResumed n e))) = refl
-    back (Ok (AwaitedIs.Next ActIs.Yield)) = refl
-    back (Ok (AwaitedIs.Next ActIs.LookAgain)) = refl
-    back (Ok (AwaitedIs.Ends (CompletedIs.Admitted t))) = ap (λ (x : Completed). Ok (AwaitedIs.Ends x)) (completed-back (CompletedIs.Admitted t))
-    back (Ok (AwaitedIs.Ends (CompletedIs.Shed d refund))) = refl
-    back (Ok (AwaitedIs.Ends (CompletedIs.Impossible cost capacity))) = refl
-    back (Ok (AwaitedIs.Ends (CompletedIs.Deadline n))) = refl
+    back (Ok (Continue (ActIs.Sleep n))) = refl
+    back (Ok (Continue (ActIs.SleepUnlessResumed n e))) = refl
+    back (Ok (Continue ActIs.Yield)) = refl
+    back (Ok (Continue ActIs.LookAgain)) = refl
+    back (Ok (Break (CompletedIs.Admitted t))) = ap (λ (x : Completed). Ok (Break x)) (completed-back (CompletedIs.Admitted t))
+    back (Ok (Break (CompletedIs.Shed d refund))) = refl
+    back (Ok (Break (CompletedIs.Impossible cost capacity))) = refl
+    back (Ok (Break (CompletedIs.Deadline n))) = refl
     back (Err r) = read-refused good_awaited more_awaited Err r
 
-abbrev good_course : List ℕ → Result Course Refusal
-good_course vs = Ok (CourseIs.Ends (admitted vs))
+abbrev good_course : List ℕ → Result (Option Completed) Refusal
+good_course vs = Ok (Some (admitted vs))
 
-abbrev more_course : ℕ → List ℕ → Result Course Refusal
-more_course n vs = Ok (if eqb n 10 then CourseIs.Unfinished else CourseIs.Ends (more n vs))
+abbrev more_course : ℕ → List ℕ → Result (Option Completed) Refusal
+more_course n vs = Ok (if eqb n 10 then None else Some (more n vs))
 
-pub course-one : (a b : Result Course Refusal) → course_told a ≡ course_told b → a ≡ b
+pub course-one : (a b : Result (Option Completed) Refusal) → course_told a ≡ course_told b → a ≡ b
 course-one = one course_told (read good_course more_course Err) back
   where
-    back : (a : Result Course Refusal) → read good_course more_course Err (course_told a) ≡ a
-    back (Ok (CourseIs.Ends (CompletedIs.Admitted t))) = ap (λ (x : Completed). Ok (CourseIs.Ends x)) (completed-back (CompletedIs.Admitted t))
-    back (Ok (CourseIs.Ends (CompletedIs.Shed d refund))) = refl
-    back (Ok (CourseIs.Ends (CompletedIs.Impossible cost capacity))) = refl
-    back (Ok (CourseIs.Ends (CompletedIs.Deadline n))) = refl
-    back (Ok CourseIs.Unfinished) = refl
+    back : (a : Result (Option Completed) Refusal) → read good_course more_course Err (course_told a) ≡ a
+    back (Ok (Some (CompletedIs.Admitted t))) = ap (λ (x : Completed). Ok (Some x)) (completed-back (CompletedIs.Admitted t))
+    back (Ok (Some (CompletedIs.Shed d refund))) = refl
+    back (Ok (Some (CompletedIs.Impossible cost capacity))) = refl
+    back (Ok (Some (CompletedIs.Deadline n))) = refl
+    back (Ok None) = refl
     back (Err r) = read-refused good_course more_course Err r

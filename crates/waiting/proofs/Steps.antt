@@ -1,5 +1,5 @@
 -- The calls of a wait before a breaker, by what the breaker's steps and the wait's own calls answered. Assumes nothing.
-use Rattle.std.proofs.Common.{◌≡◌, ℕ, Bool, true, false, List, refl, sym, ap, ◌∙◌, ◌%◌, length, eq-eqb, Result, Ok, Err}
+use Rattle.std.proofs.Common.{◌≡◌, ℕ, Bool, true, false, List, refl, sym, ap, ◌∙◌, ◌%◌, length, eq-eqb, Option, Some, Result, Ok, Err, Break}
 use Rattle.error.specs.Told.{Told, nothing, refused}
 use Rattle.error.specs.declared.Refusal.{Refusal}
 use Rattle.history.specs.Items.{padded}
@@ -20,17 +20,12 @@ use Rattle.admission.proofs.Admitting.{entered-shed, entered-granted, admitted-g
 use Rattle.wait.specs.declared.Wait.{Wait}
 use Rattle.wait.specs.declared.Observed.{Observed}
 use Rattle.wait.specs.declared.Ending.{Ending}
-use Rattle.wait.specs.declared.Ran.{Ran}
-use Rattle.wait.specs.declared.Ran.TheVariants as RanIs
-use Rattle.wait.specs.declared.Turned.{Turned}
-use Rattle.wait.specs.declared.Turned.TheVariants as TurnedIs
-use Rattle.wait.specs.declared.Turning.{Turning}
-use Rattle.wait.specs.declared.Running.{Running}
-use Rattle.wait.specs.declared.Dropping.{Dropping}
-use Rattle.wait.specs.Answers.{dropped_told}
+use Rattle.wait.specs.declared.AndWait.{AndWait}
+use Rattle.wait.specs.Answers.{Turned, started_told, dropped_told}
 use Rattle.wait.specs.Turns.{started}
 use Rattle.wait.specs.Manner.{turned, dropped}
-use Rattle.wait.specs.Run.{runs}
+use Rattle.wait.specs.Run.{Running, runs}
+use Rattle.wait.proofs.OneToOne.{started-one}
 use Rattle.keep.specs.Keep.{keep}
 use Rattle.waiting.specs.declared.Pending.{Pending}
 use Rattle.waiting.specs.declared.Completed.TheVariants as CompletedIs
@@ -52,6 +47,14 @@ judged-by (refuses ms) t st = refl
 -- what an end leaves, for every state that the record stores
 abbrev Leaves : Ending → ℕ → ℕ → Ticket → Breaker → Told → Breaker → Type 0
 Leaves e reading capacity t b told next = (c : Config) (st : State) → b ≡ stored c st → after told next (padded st.list) ≡ kept c (completes e reading capacity t st)
+
+-- ---- a start whose times are refused leaves all as it was
+
+pub start-refused : (reading clock : ℕ) (limited : Bool) (timeout : ℕ) (b : Breaker) (s : List ℕ) (p : Pending) → sound b s ≡ true
+    → (r : Refusal) → refused r ≡ started_told (started clock limited timeout) → pending_after (refused r) b s p ≡ start_pending reading clock limited timeout b s p
+unfolding start_pending
+start-refused reading clock limited timeout b s p ok r e =
+    ap (λ (y : Result Wait Refusal). started_to y reading b s p) (started-one (Err r) (started clock limited timeout) e) ∙ guarded-done (λ q. pending_after (refused q) b s p) _ b s ok
 
 -- ---- what is left of a breaker that passed its test
 
@@ -103,29 +106,29 @@ module _ (b : Breaker) (s : List ℕ) (tested : Ok (tt {0}) ≡ guarded Err (Ok 
   -- ---- a turn or a run that ends the wait, and a drop
 
   module _ (e : Ending) (reading capacity : ℕ) (told : Told) (next : Breaker) (left : Leaves e reading capacity p.ticket b told next) where
-    pub turn-ends : (t : Observed) (x : Turning) → Ok x ≡ turned keep p.wait t → x.answer ≡ TurnedIs.Ends e
+    pub turn-ends : (t : Observed) (x : AndWait Turned) → Ok x ≡ turned keep p.wait t → x.answer ≡ Break e
         → pending_after told next s (pending x.wait p.ticket) ≡ turn_pending t reading capacity b s p
     unfolding turn_pending
     turn-ends t x is q =
         ap (beside (pending x.wait p.ticket)) (completed e reading capacity told next left)
         ∙ ap (λ (a : Turned). goes_on a x.wait reading capacity b s p) (sym q)
-        ∙ ap (λ (y : Result Turning Refusal). turned_to y reading capacity b s p) is
+        ∙ ap (λ (y : Result (AndWait Turned) Refusal). turned_to y reading capacity b s p) is
         ∙ guarded-done (λ r. pending_after (refused r) b s p) _ b s ok
 
-    pub run-ends : (turns : List ℕ) (limit : ℕ) (x : Running) → length turns % 8 ≡ 0 → x ≡ runs keep p.wait turns limit → x.answer ≡ Ok (RanIs.Ends e)
-        → pending_run (pending_after told next s (pending x.wait p.ticket)) x.taken ≡ run_pending turns limit reading capacity b s p
+    pub run-ends : (turns : List ℕ) (limit : ℕ) (x : Running) → length turns % 8 ≡ 0 → x ≡ runs keep p.wait turns limit → x.answer.course ≡ Ok (Some e)
+        → pending_run (pending_after told next s (pending x.wait p.ticket)) x.answer.taken ≡ run_pending turns limit reading capacity b s p
     unfolding run_pending
     run-ends turns limit x whole is q =
         rw (eq-eqb _ _ whole)
-        (ap (λ (a : After). pending_run (beside (pending x.wait p.ticket) a) x.taken) (completed e reading capacity told next left)
-        ∙ ap (λ (a : Result Ran Refusal). pending_run (ran_to a x.wait reading capacity b s p) x.taken) (sym q)
-        ∙ ap (λ (y : Running). pending_run (ran_to y.answer y.wait reading capacity b s p) y.taken) is
+        (ap (λ (a : After). pending_run (beside (pending x.wait p.ticket) a) x.answer.taken) (completed e reading capacity told next left)
+        ∙ ap (λ (a : Result (Option Ending) Refusal). pending_run (ran_to a x.wait reading capacity b s p) x.answer.taken) (sym q)
+        ∙ ap (λ (y : Running). pending_run (ran_to y.answer.course y.wait reading capacity b s p) y.answer.taken) is
         ∙ guarded-done (λ r. pending_run (pending_after (refused r) b s p) 0) _ b s ok)
 
-  pub drop-gives : (x : Dropping) (next : Breaker) → Ok x ≡ dropped keep p.wait → Applies (λ c st. aborted p.ticket false st) b next
-      → pending_after (dropped_told (Ok x.back)) next s (pending x.wait p.ticket) ≡ drop_pending b s p
+  pub drop-gives : (x : AndWait ℕ) (next : Breaker) → Ok x ≡ dropped keep p.wait → Applies (λ c st. aborted p.ticket false st) b next
+      → pending_after (dropped_told (Ok x.answer)) next s (pending x.wait p.ticket) ≡ drop_pending b s p
   unfolding drop_pending
   drop-gives x next is h =
-      ap (beside (pending x.wait p.ticket)) (given_back (dropped_told (Ok x.back)) b.config p.ticket false (state b s) next s (h b.config (state b s) (holds b s ok).0) (holds b s ok).1)
-      ∙ ap (λ (y : Result Dropping Refusal). dropped_to y b s p) is
+      ap (beside (pending x.wait p.ticket)) (given_back (dropped_told (Ok x.answer)) b.config p.ticket false (state b s) next s (h b.config (state b s) (holds b s ok).0) (holds b s ok).1)
+      ∙ ap (λ (y : Result (AndWait ℕ) Refusal). dropped_to y b s p) is
       ∙ guarded-done (λ r. pending_after (refused r) b s p) _ b s ok

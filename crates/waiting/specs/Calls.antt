@@ -1,5 +1,6 @@
 -- The entry points of a wait before a breaker: each tests 3 and 4, then what the wait itself refuses (11, then 1), and then does what the rules say. Definitions only.
-use Rattle.std.specs.Prelude.{ℕ, Bool, List, Result, Ok, Err, if◌then◌else◌}
+use Rattle.std.specs.Prelude.{ℕ, Bool, List, Option, Some, None, Result, Ok, Err, if◌then◌else◌}
+use Rattle.std.specs.declared.ops.ControlFlow.TheVariants.{Continue, Break}
 use Rattle.error.specs.Told.{Told, refused}
 use Rattle.error.specs.declared.Refusal.{Refusal}
 use Rattle.error.specs.declared.Refusal.TheVariants.{Storage}
@@ -13,21 +14,14 @@ use Rattle.breaker.specs.Calls.{After, guarded, kept}
 use Rattle.wait.specs.declared.Wait.{Wait}
 use Rattle.wait.specs.declared.Observed.{Observed}
 use Rattle.wait.specs.declared.Ending.{Ending}
-use Rattle.wait.specs.declared.Turned.{Turned}
-use Rattle.wait.specs.declared.Turning.{Turning}
-use Rattle.wait.specs.declared.Dropping.{Dropping}
-use Rattle.wait.specs.declared.Turned.TheVariants as TurnedIs
-use Rattle.wait.specs.declared.Ran.{Ran}
-use Rattle.wait.specs.declared.Ran.TheVariants as RanIs
-use Rattle.wait.specs.Answers.{dropped_told}
+use Rattle.wait.specs.declared.AndWait.{AndWait}
+use Rattle.wait.specs.Answers.{Turned, dropped_told}
 use Rattle.wait.specs.Turns.{started}
 use Rattle.wait.specs.Manner.{turned, dropped}
 use Rattle.wait.specs.Run.{whole_turns, runs}
 use Rattle.keep.specs.Keep.{keep}
 use Rattle.waiting.specs.declared.Pending.{Pending}
 use Rattle.waiting.specs.declared.WithWait.{WithWait}
-use Rattle.waiting.specs.declared.Awaited.TheVariants as AwaitedIs
-use Rattle.waiting.specs.declared.Course.TheVariants as CourseIs
 use Rattle.waiting.specs.Answers.{begun_told, awaited_told, course_told}
 use Rattle.waiting.specs.Rules.{after_abort, completes}
 
@@ -43,7 +37,7 @@ abbrev pub pending_after : Told → Breaker → List ℕ → Pending → Pending
 pending_after t b s p = record { told = t; breaker = b; places = s; pending = p }
 
 -- of a call by value: its answer, the record and the wait after it; refused or shed, all as it was
-abbrev pub with_wait : {A E : Type 0} → (Result A E → Told) → Result (WithWait A) E → Breaker → List ℕ → Pending → PendingAfter
+abbrev pub with_wait : {A E : Type 0} → (Result A E → Told) → Result (WithWait A Pending) E → Breaker → List ℕ → Pending → PendingAfter
 with_wait told (Ok x) b s p = pending_after (told (Ok x.answer)) x.breaker s x.pending
 with_wait told (Err e) b s p = pending_after (told (Err e)) b s p
 
@@ -75,10 +69,10 @@ finishes e w reading capacity b s p =
     beside (pending w p.ticket) (kept b.config (completes e reading capacity p.ticket (state b s)))
 
 abbrev pub goes_on : Turned → Wait → ℕ → ℕ → Breaker → List ℕ → Pending → PendingAfter
-goes_on (TurnedIs.Next act) w reading capacity b s p = pending_after (awaited_told (Ok (AwaitedIs.Next act))) b s (pending w p.ticket)
-goes_on (TurnedIs.Ends e) w reading capacity b s p = finishes e w reading capacity b s p
+goes_on (Continue act) w reading capacity b s p = pending_after (awaited_told (Ok (Continue act))) b s (pending w p.ticket)
+goes_on (Break e) w reading capacity b s p = finishes e w reading capacity b s p
 
-abbrev pub turned_to : Result Turning Refusal → ℕ → ℕ → Breaker → List ℕ → Pending → PendingAfter
+abbrev pub turned_to : Result (AndWait Turned) Refusal → ℕ → ℕ → Breaker → List ℕ → Pending → PendingAfter
 turned_to (Ok x) reading capacity b s p = goes_on x.answer x.wait reading capacity b s p
 turned_to (Err r) reading capacity b s p = pending_after (refused r) b s p
 
@@ -94,22 +88,22 @@ pub record PendingRun : Type 0 where
 abbrev pub pending_run : PendingAfter → ℕ → PendingRun
 pending_run a n = record { left = a; taken = n }
 
-abbrev pub ran_to : Result Ran Refusal → Wait → ℕ → ℕ → Breaker → List ℕ → Pending → PendingAfter
-ran_to (Ok (RanIs.Ends e)) w reading capacity b s p = finishes e w reading capacity b s p
-ran_to (Ok RanIs.Unfinished) w reading capacity b s p = pending_after (course_told (Ok CourseIs.Unfinished)) b s (pending w p.ticket)
+abbrev pub ran_to : Result (Option Ending) Refusal → Wait → ℕ → ℕ → Breaker → List ℕ → Pending → PendingAfter
+ran_to (Ok (Some e)) w reading capacity b s p = finishes e w reading capacity b s p
+ran_to (Ok None) w reading capacity b s p = pending_after (course_told (Ok None)) b s (pending w p.ticket)
 ran_to (Err r) w reading capacity b s p = pending_after (refused r) b s (pending w p.ticket)
 
 unfoldable pub run_pending : List ℕ → ℕ → ℕ → ℕ → Breaker → List ℕ → Pending → PendingRun
 run_pending turns limit reading capacity b s p =
     let x = runs keep p.wait turns limit in
     if whole_turns turns then
-    guarded (λ r. pending_run (pending_after (refused r) b s p) 0) (pending_run (ran_to x.answer x.wait reading capacity b s p) x.taken) b s
+    guarded (λ r. pending_run (pending_after (refused r) b s p) 0) (pending_run (ran_to x.answer.course x.wait reading capacity b s p) x.answer.taken) b s
     else pending_run (pending_after (refused Storage) b s p) 0
 
 -- ---- "a dropped wait: abort; a dropped wait gives back a held grant"
 
-abbrev pub dropped_to : Result Dropping Refusal → Breaker → List ℕ → Pending → PendingAfter
-dropped_to (Ok x) b s p = beside (pending x.wait p.ticket) (kept b.config (after_abort (dropped_told (Ok x.back)) p.ticket (state b s)))
+abbrev pub dropped_to : Result (AndWait ℕ) Refusal → Breaker → List ℕ → Pending → PendingAfter
+dropped_to (Ok x) b s p = beside (pending x.wait p.ticket) (kept b.config (after_abort (dropped_told (Ok x.answer)) p.ticket (state b s)))
 dropped_to (Err r) b s p = pending_after (refused r) b s p
 
 unfoldable pub drop_pending : Breaker → List ℕ → Pending → PendingAfter

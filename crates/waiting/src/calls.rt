@@ -1,4 +1,5 @@
 // The calls of a wait before a breaker. Each tests storage and soundness first, then the wait; a refused one leaves the breaker as it was.
+// Their parameters are as C hands them, named as in the table.
 ghost use Rattle.std.specs.Prelude.{◌≡◌};
 ghost use Rattle.waiting.specs.declared.Pending.{Pending};
 ghost use Rattle.wait.specs.Answers.{dropped_told};
@@ -6,13 +7,15 @@ ghost use Rattle.waiting.specs.Answers.{begun_told, awaited_told, course_told};
 ghost use Rattle.waiting.specs.Calls.{pending_after, pending_run, start_pending, turn_pending, run_pending, drop_pending, with_wait};
 
 use crate::ends::complete;
-use crate::{Awaited, Course, Pending, Progress, WithWait};
+use crate::{Awaited, Completed, Pending, WithWait};
 use breaker::{Breaker, NotAdmitted, test};
 use error::Refusal;
+use std::ops::ControlFlow;
 use steps::{abort_locked, admit_as_locked};
-use wait::{Observed, Ran, TURN_WIDTH, Turned};
+use wait::{Observed, Progress, TURN_WIDTH};
 
 // Admits a call, and begins its wait for the inner limiter. The times are tested before the admission.
+// The timeout is held to its bound even where it doesn't limit, so no Option could carry it.
 // Ruled out: a refused time that leaves a probe behind; a shed that changes the pending wait.
 #[tactic(auto, unfolding(crate::specs::Calls::start_pending))]
 pub fn start(
@@ -58,15 +61,15 @@ pub fn turn(
         ..pending
     };
     match turned.answer {
-        Turned::Next(act) => Ok(WithWait {
-            answer: Awaited::Next(act),
+        ControlFlow::Continue(act) => Ok(WithWait {
+            answer: ControlFlow::Continue(act),
             breaker,
             pending: next,
         }),
-        Turned::Ends(ending) => {
+        ControlFlow::Break(ending) => {
             let done = complete(breaker, pending.ticket, ending, now_ms, capacity);
             Ok(WithWait {
-                answer: Awaited::Ends(done.answer),
+                answer: ControlFlow::Break(done.answer),
                 breaker: done.breaker,
                 pending: next,
             })
@@ -85,7 +88,7 @@ pub fn run(
     limit: u64,
     now_ms: u64,
     capacity: u32,
-) -> WithWait<Progress>
+) -> WithWait<Progress<Completed>>
     ensures { pending_run (pending_after (course_told result.answer.course) result.breaker list.now result.pending) result.answer.taken
         ≡ run_pending turns.now limit now_ms capacity breaker list.now pending }
 {
@@ -100,22 +103,23 @@ pub fn run(
         wait: ran.wait,
         ..pending
     };
-    match ran.answer {
-        Err(refusal) => proceeding(Err(refusal), ran.taken, breaker, next),
-        Ok(Ran::Unfinished) => proceeding(Ok(Course::Unfinished), ran.taken, breaker, next),
-        Ok(Ran::Ends(ending)) => {
+    let Progress { course, taken } = ran.answer;
+    match course {
+        Err(refusal) => proceeding(Err(refusal), taken, breaker, next),
+        Ok(None) => proceeding(Ok(None), taken, breaker, next),
+        Ok(Some(ending)) => {
             let done = complete(breaker, pending.ticket, ending, now_ms, capacity);
-            proceeding(Ok(Course::Ends(done.answer)), ran.taken, done.breaker, next)
+            proceeding(Ok(Some(done.answer)), taken, done.breaker, next)
         }
     }
 }
 
 fn proceeding(
-    course: Result<Course, Refusal>,
+    course: Result<Option<Completed>, Refusal>,
     taken: u64,
     breaker: Breaker,
     pending: Pending,
-) -> WithWait<Progress>
+) -> WithWait<Progress<Completed>>
     ensures { result ≡ record { answer = record { course = course; taken = taken }; breaker = breaker; pending = pending } }
 {
     WithWait {
@@ -125,7 +129,7 @@ fn proceeding(
     }
 }
 
-// Ends a wait before it has ended: the ticket is aborted, and a held grant is to be given back.
+// Ends a wait before it has ended: the ticket is aborted, and a held grant is to be given back. Told is how much, 0 or 1.
 // Ruled out: a drop that keeps the probe; one that keeps a held grant.
 #[tactic(auto, unfolding(crate::specs::Calls::drop_pending))]
 pub fn drop_pending(
@@ -138,7 +142,7 @@ pub fn drop_pending(
     test(breaker, list)?;
     let dropped = keep::drop_wait(pending.wait)?;
     Ok(WithWait {
-        answer: dropped.back,
+        answer: dropped.answer,
         breaker: abort_locked(breaker, pending.ticket, false),
         pending: Pending {
             wait: dropped.wait,

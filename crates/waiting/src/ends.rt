@@ -1,9 +1,8 @@
 // What the end of a wait does to its breaker, for every state that the record stores.
 ghost use Rattle.std.specs.Prelude.{◌≡◌};
 ghost use Rattle.history.specs.Items.{padded};
-ghost use Rattle.trip.specs.declared.Config.{Config};
-ghost use Rattle.breaker.specs.Record.{State, stored};
 ghost use Rattle.breaker.specs.Calls.{after, kept};
+ghost use Rattle.steps.specs.Steps.{OnStored};
 ghost use Rattle.waiting.specs.Answers.{completed_told};
 ghost use Rattle.waiting.specs.Rules.{after_abort, completes};
 
@@ -14,8 +13,8 @@ use wait::Ending;
 
 // The ticket is aborted.
 fn given_up(answer: Completed, breaker: Breaker, ticket: Ticket) -> Answered<Completed>
-    ensures { (c : Config) (st : State) → breaker ≡ stored c st
-        → after (completed_told result.answer) result.breaker (padded st.list) ≡ kept c (after_abort (completed_told answer) ticket st) }
+    ensures { OnStored breaker (λ c st. after (completed_told result.answer) result.breaker (padded st.list)
+        ≡ kept c (after_abort (completed_told answer) ticket st)) }
 {
     Answered {
         answer,
@@ -31,8 +30,8 @@ pub(crate) fn complete(
     now_ms: u64,
     capacity: u32,
 ) -> Answered<Completed>
-    ensures { (c : Config) (st : State) → breaker ≡ stored c st
-        → after (completed_told result.answer) result.breaker (padded st.list) ≡ kept c (completes ending now_ms capacity ticket st) }
+    ensures { OnStored breaker (λ c st. after (completed_told result.answer) result.breaker (padded st.list)
+        ≡ kept c (completes ending now_ms capacity ticket st)) }
 {
     match ending {
         Ending::Deadline(back) => given_up(Completed::Deadline(back), breaker, ticket),

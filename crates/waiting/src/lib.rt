@@ -6,7 +6,7 @@ mod ends;
 
 use breaker::{Breaker, Delay, Ticket};
 pub use calls::{drop_pending, run, start, turn};
-use error::Refusal;
+use std::ops::ControlFlow;
 use wait::{Act, Wait};
 
 // A wait and the ticket that was admitted for it.
@@ -18,7 +18,7 @@ pub struct Pending {
 }
 
 // How a wait ends. Shed: the breaker no longer admits; the delay, and how much to refund. Impossible: cost and capacity. Deadline: how
-// much to give back.
+// much to give back, an amount of the limiter's units, told as a number.
 #[derive(Clone, Copy)]
 pub enum Completed {
     Admitted(Ticket),
@@ -28,30 +28,12 @@ pub enum Completed {
 }
 
 // What a turn comes to: something to do before the next, or the end.
-#[derive(Clone, Copy)]
-pub enum Awaited {
-    Next(Act),
-    Ends(Completed),
-}
+pub type Awaited = ControlFlow<Completed, Act>;
 
-// What a run of turns comes to. Unfinished: its limit or its turns are used up.
+// The answer of a call, and the record and the wait after it; the wait in C's form where it crosses.
 #[derive(Clone, Copy)]
-pub enum Course {
-    Ends(Completed),
-    Unfinished,
-}
-
-// A run's course, or why a turn of it was refused, and the turns that it took before.
-#[derive(Clone, Copy)]
-pub struct Progress {
-    pub course: Result<Course, Refusal>,
-    pub taken: u64,
-}
-
-// The answer of a call, and the record and the wait after it.
-#[derive(Clone, Copy)]
-pub struct WithWait<A> {
+pub struct WithWait<A, P = Pending> {
     pub answer: A,
     pub breaker: Breaker,
-    pub pending: Pending,
+    pub pending: P,
 }

@@ -1,5 +1,4 @@
 -- `batch::finish` meets its contract: a settle or an abort of the rules. Assumes nothing.
-use Rattle.std.proofs.Common.{sym, ◌∙◌}
 use Rattle.error.proofs.Passed.{passed}
 use Rattle.outcomes.proofs.Settling.{settle-stale, settle-refused, settle-counted, settle-tripped}
 use Rattle.batch.proofs.Sequences.{call-settles, call-aborts}
@@ -11,7 +10,7 @@ returns-then-not-settles c =
 
 pub returns-then-b-ne-CLOSED : goal.returns-then-b-ne-CLOSED
 returns-then-b-ne-CLOSED c =
-    λ ok cfg st h. call-settles cfg st c.args.now_ms c.args.ticket c.args.mark c.args.settles c.if-not-settles.false _ (c.settle_unclosed.ensures ok c.if-b-ne-CLOSED.true cfg st h)
+    λ ok cfg st h. call-settles cfg st c.args.now_ms c.args.ticket c.args.mark c.args.settles c.if-not-settles.false _ (c.settle_unclosed.ensures c.if-b-ne-CLOSED.true ok cfg st h)
 
 pub returns-then-ticket-b : goal.returns-then-ticket-b
 returns-then-ticket-b c =

@@ -1,12 +1,6 @@
 -- `history::turn_over` meets its contract: the refusals, the items that stay, and one more. Assumes nothing.
-use Rattle.std.proofs.Common.{◌≡◌, Err, sym, rules}
-use Rattle.history.specs.Change.{replaced}
 use Rattle.history.proofs.Change.{turned-full, turned-over}
 use Rattle.history.proofs.turn_over.Goals as goal
-
-pub returns-in_err-n : goal.returns-in_err-n
-unfolding replaced
-returns-in_err-n c = let e : c.from_residual.result ≡ Err c.in_err-n.field-0.0 = search rules in rw e (sym (c.in_err-n.ensures.refused _))
 
 pub returns-then-kept-eq-PLACES : goal.returns-then-kept-eq-PLACES
 returns-then-kept-eq-PLACES c =

@@ -3,7 +3,7 @@ use Rattle.std.proofs.Common.{◌+◌, ◌≤◌, length}
 use Rattle.journals.proofs.replay_all.Given as goal
 
 abbrev pub invariant-loop-case : goal.invariant-loop-case
-invariant-loop-case l = (l.journals + length l.rest ≤ length l.s) × (l.differ ≤ l.journals)
+invariant-loop-case g l = (l.journals + length l.rest ≤ length l.s) × (l.differ ≤ l.journals)
 
 abbrev pub decreases-loop-case : goal.decreases-loop-case
-decreases-loop-case l = length l.rest
+decreases-loop-case g l = length l.rest

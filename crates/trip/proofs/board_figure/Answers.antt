@@ -6,4 +6,4 @@ pub returns-then-calls-eq0 : goal.returns-then-calls-eq0
 returns-then-calls-eq0 c = simp (eq-eqb _ _ c.if-calls-eq0.true)
 
 pub returns : goal.returns
-returns c = simp (ne_eqb _ _ c.if-calls-eq0.false)
+returns c = rw (c.from.ensures, c.from-2.ensures) (simp (ne_eqb _ _ c.if-calls-eq0.false))

@@ -25,6 +25,6 @@ float_from_bits-ratio c = no_nan c.args.ratio_bits c.if-ratio_bits-gt-INFINITY_B
 
 pub returns : goal.returns
 unfolding ratio_reached
-returns c =
+returns c = rw (c.from.ensures, c.from-2.ensures) (
     ap (λ (q : Float). le (of_bits binary64 c.args.ratio_bits) q) (div-whole binary64 c.args.failed c.args.calls c.if-calls-lt1.false (omega (arith, c.ranges.failed)) (omega (arith, c.ranges.calls)))
-    ∙ simp (le-leb _ _ c.if-calls-lt1.false, le-leb _ _ c.if-calls-min_calls.false)
+    ∙ simp (le-leb _ _ c.if-calls-lt1.false, le-leb _ _ c.if-calls-min_calls.false))

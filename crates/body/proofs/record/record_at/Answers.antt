@@ -11,8 +11,8 @@ loop-i-init c = read_none c.args.s.now _ c.args.at cc
 pub loop-i-preserved : goal.loop-i-preserved
 loop-i-preserved c = read_more c.args.s.now c.loop-i.values c.args.at c.loop-i.i c.loop-i.next c.number_at.result c.loop-i.invariant c.requires c.loop-i-test.true c.number_at.ensures
 
-pub breaker_of-requires : goal.breaker_of-requires
-breaker_of-requires c = read_fit c.args.s.now c.loop-i.values c.args.at (bytes-all c.args.s.now (λ i. omega (arith, c.type_inv.s i))) c.requires (read_all c.args.s.now c.loop-i.values c.args.at c.loop-i.i c.loop-i.next c.loop-i.invariant c.loop-i-test.false)
+pub invariant_of-breaker : goal.invariant_of-breaker
+invariant_of-breaker c = record { fit = read_fit c.args.s.now c.loop-i.values c.args.at (bytes-all c.args.s.now (λ i. omega (arith, c.type_inv.s i))) c.requires (read_all c.args.s.now c.loop-i.values c.args.at c.loop-i.i c.loop-i.next c.loop-i.invariant c.loop-i-test.false) }
 
 pub returns : goal.returns
-returns c = c.breaker_of.ensures ∙ ap breaker_of (read_all c.args.s.now c.loop-i.values c.args.at c.loop-i.i c.loop-i.next c.loop-i.invariant c.loop-i-test.false)
+returns c = c.breaker.ensures ∙ ap breaker_of (read_all c.args.s.now c.loop-i.values c.args.at c.loop-i.i c.loop-i.next c.loop-i.invariant c.loop-i-test.false)

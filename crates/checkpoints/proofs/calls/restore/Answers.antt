@@ -51,6 +51,12 @@ slice_bounds-come_back-end c =
     let l = looked (goal.at.slice_bounds-come_back-end c).After-look _ (c.in_ok-place.was ∙ ap Ok c.in-Some.is) in
     (read-frame c.args.buffer.now c.args.used l.0 l.1).0
 
+pub come_back-requires : goal.come_back-requires
+come_back-requires c =
+    let l = looked (goal.at.come_back-requires c).After-look _ (c.in_ok-place.was ∙ ap Ok c.in-Some.is) in
+    let f = (read-frame c.args.buffer.now c.args.used l.0 l.1).0 in
+    part-summed c.args.buffer.now c.args.used c.in-Some.place l.2 l.3 l.4 f l.7 l.9 (read-summed c.args.buffer.now c.args.used l.0 l.1)
+
 pub returns : goal.returns
 returns c =
     let l = looked (goal.at.returns c).After-look _ (c.in_ok-place.was ∙ ap Ok c.in-Some.is) in
@@ -58,8 +64,7 @@ returns c =
     let ok = tested (goal.at.returns c).In_ok-test in (
       saves l.0,
       λ ok. l.1,
-      c.come_back.ensures l.3 _ (middle l.2 l.3 l.4 l.5) (part-run c.args.buffer.now c.args.used c.in-Some.place l.2 l.3 l.4 f l.7 l.9)
-          (part-summed c.args.buffer.now c.args.used c.in-Some.place l.2 l.3 l.4 f l.7 l.9 (read-summed c.args.buffer.now c.args.used l.0 l.1)) (sound-places c.args.breaker c.args.list.now ok)
+      c.come_back.ensures l.3 _ (middle l.2 l.3 l.4 l.5) (part-run c.args.buffer.now c.args.used c.in-Some.place l.2 l.3 l.4 f l.7 l.9) (sound-places c.args.breaker c.args.list.now ok)
           ∙ back_at c.args.name.now l.2 l.3 l.4 c.args.breaker c.args.list.now l.5 l.8
           ∙ ap (λ (ss : List Save). came_back c.args.name.now ss c.args.breaker c.args.list.now) (sym l.6)
           ∙ guarded-done (λ r. after (refused r) c.args.breaker c.args.list.now) _ c.args.breaker c.args.list.now ok,

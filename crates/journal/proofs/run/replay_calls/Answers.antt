@@ -1,12 +1,11 @@
 -- `journal::run::replay_calls` meets its contract. Assumes nothing.
 use Rattle.std.proofs.Common.{◌≡◌, ℕ, ◌+◌, ◌≤◌, Bool, true, false, eqb, ◌⊎◌, inl, inr, List, [], ◌++◌, length, append-nil, sym, ap, ◌∙◌, arith, eqb-true}
 use Rattle.std.proofs.lemmas.List.{nil_from_length}
-use Rattle.error.specs.Told.{told_by}
 use Rattle.breaker.specs.Record.{settings, state, sound}
 use Rattle.breaker.proofs.Record.{padded-state}
 use Rattle.lines.specs.Print.{print_call, CallFits}
 use Rattle.journal.specs.Replay.{called, answer_line, malformed_line, Replays, finished, malformed}
-use Rattle.journal.specs.Steps.{reply_told}
+use Rattle.journal.specs.Steps.{step_told}
 use Rattle.journal.proofs.Stepping.{stepped}
 use Rattle.journal.proofs.Short.{Shown, step-short, shown}
 use Rattle.journal.proofs.Replaying.{turn, last, kept, call_long}
@@ -21,7 +20,7 @@ fewer : (c : In-Some) → length c.in-Some.after.now + 4 ≤ length c.loop-call.
 fewer c = call_long c.in-Some.call _ _ (is c).1
 
 left : (c : After-step-made) → let o = called c.in-Some.call (settings c.args.breaker.config) (state c.loop-call.breaker c.loop-call.list) in
-    (sound c.step-made.result.breaker c.step-made.new.list ≡ true) × (state c.step-made.result.breaker c.step-made.new.list ≡ o.after) × (c.step-made.result.breaker.config ≡ c.args.breaker.config) × (told_by reply_told c.step-made.result.answer ≡ o.told)
+    (sound c.step-made.result.breaker c.step-made.new.list ≡ true) × (state c.step-made.result.breaker c.step-made.new.list ≡ o.after) × (c.step-made.result.breaker.config ≡ c.args.breaker.config) × (step_told c.step-made.result.answer ≡ o.told)
 left c = stepped c.in-Some.call c.loop-call.breaker c.loop-call.list c.step-made.new.list c.step-made.result c.args.breaker.config c.loop-call.invariant.config_is c.loop-call.invariant.sound_is c.step-made.ensures
 
 widths : (c : After-step-made) → Shown (state c.step-made.result.breaker c.step-made.new.list)
@@ -40,7 +39,7 @@ loop-call-preserved c =
     let m = fewer (goal.at.loop-call-preserved c).In-Some in
     let t = left (goal.at.loop-call-preserved c).After-step-made in
     let st = state c.step-made.result.breaker c.step-made.new.list in
-    let told = told_by reply_told c.step-made.result.answer in
+    let told = step_told c.step-made.result.answer in
     let xs = answer_line told st in
     let h : w.result ≤ length l.out = omega (arith, w.ensures.upper_bound, i.room, c.requires.s_in_bounds) in
     let z = step-short c.in-Some.call (settings c.args.breaker.config) (state l.breaker l.list) st told t.1 t.3 (widths (goal.at.loop-call-preserved c).After-step-made) in record {

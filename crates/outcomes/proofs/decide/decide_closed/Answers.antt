@@ -5,8 +5,8 @@ use Rattle.outcomes.proofs.decide.decide_closed.Goals as goal
 
 pub returns-in-Nothing : goal.returns-in-Nothing
 returns-in-Nothing c =
-    λ ok cfg st h. c.decide_run.ensures cfg st c.args.now_ms h.0 (is-run cfg (rw h.0 at (sym c.items_of.ensures ∙ c.in-Nothing.is)))
+    λ ok cfg st h. c.decide_run.ensures cfg st h.0 c.args.now_ms (is-run cfg (rw h.0 at (sym c.items_of.ensures ∙ c.in-Nothing.is)))
 
 pub returns-in-Outcomes : goal.returns-in-Outcomes
 returns-in-Outcomes c =
-    λ ok cfg st h. c.decide_outcome.ensures ok cfg st c.args.now_ms h (is-outcomes cfg c.in-Outcomes.window (rw h.0 at (sym c.items_of.ensures ∙ c.in-Outcomes.is)))
+    λ ok cfg st h. c.decide_outcome.ensures ok cfg st h c.args.now_ms (is-outcomes cfg c.in-Outcomes.window (rw h.0 at (sym c.items_of.ensures ∙ c.in-Outcomes.is)))

@@ -12,7 +12,7 @@ use Rattle.outcomes.proofs.decide.decide_outcome.Goals as goal
 
 pub returns-then-success : goal.returns-then-success
 returns-then-success c =
-    λ ok cfg st reading h p.
+    λ ok cfg st h reading p.
     let n = has-length c.args.b c.args.list.now cfg st h ok in
     let f = window-fits c.args.b c.args.list.now cfg st h ok c.args.window (ap items_for p) in
     let g : c.over-gone.result ≡ length st.list + 1 - c.args.window = omega (arith, c.over-gone.ensures.1 f.0 f.2, n) in
@@ -20,7 +20,7 @@ returns-then-success c =
 
 pub returns : goal.returns
 returns c =
-    λ ok cfg st reading h p.
+    λ ok cfg st h reading p.
     let n = has-length c.args.b c.args.list.now cfg st h ok in
     let f = window-fits c.args.b c.args.list.now cfg st h ok c.args.window (ap items_for p) in
     let g : c.over-gone.result ≡ length st.list + 1 - c.args.window = omega (arith, c.over-gone.ensures.1 f.0 f.2, n) in

@@ -18,5 +18,5 @@ returns c =
     let q : used ≡ less_counts 0 1 0 c.args.b.shared.counts = rw (sub-zero, add-zero) in
     let next = c.with_counts.ensures cfg st h.0 in
     let half : c.with_counts.result.shared.state ≡ 1 = ap (λ (x : Breaker). x.shared.state) next ∙ (rw h.0 at c.if-b-ne-HALF_OPEN.false) in
-    c.settle_unclosed-next.ensures (used_sound c.args.b c.args.list.now cfg st c.args.now_ms c.args.success h c.if-b-ne-HALF_OPEN.false c.if-counts-eq0.false used q ok c.with_counts.result next) (λ k. omega arith) cfg (with_counts used st) (next, h.1)
+    c.settle_unclosed-next.ensures (λ k. omega arith) (used_sound c.args.b c.args.list.now cfg st c.args.now_ms c.args.success h c.if-b-ne-HALF_OPEN.false c.if-counts-eq0.false used q ok c.with_counts.result next) cfg (with_counts used st) (next, h.1)
     ∙ manual-one c.args.b c.args.list.now cfg st c.args.now_ms c.args.success h c.if-b-ne-HALF_OPEN.false c.if-counts-eq0.false used q

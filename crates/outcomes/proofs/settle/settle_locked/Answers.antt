@@ -7,4 +7,4 @@ returns c =
     λ ok cfg st h.
     let d = rw c.in_ok-settle_closed.was at (c.settle_closed.ensures ok cfg st h) in
     settle-closed c.args.b c.args.list.now cfg st c.args.now_ms c.args.t c.args.success h c.if-t-b.false c.if-b-ne-CLOSED.false c.settle_closed.new.list _ d.0 d.1 c.concluded.result
-    (c.concluded.ensures cfg st c.args.success h.0 d.0)
+    (c.concluded.ensures cfg st h.0 c.args.success d.0)

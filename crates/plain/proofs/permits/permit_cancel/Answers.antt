@@ -4,4 +4,4 @@ use Rattle.crossing.specs.Crossing.{crossed}
 use Rattle.plain.proofs.permits.permit_cancel.Goals as goal
 
 pub returns : goal.returns
-returns c = c.told.ensures _ ∙ ap crossed (rw c.ticket_by.ensures at c.permit_cancel.ensures)
+returns c = c.told.ensures _ ∙ ap crossed (rw c.into.ensures at c.permit_cancel.ensures)

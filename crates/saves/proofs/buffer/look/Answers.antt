@@ -1,9 +1,7 @@
 -- `saves::buffer::look` meets its contract: the passes in their order, then the walk. Assumes nothing.
-use Rattle.std.proofs.Common.{ℕ, ◌≡◌, true, Option, Result, length, sym, subst, ◌∙◌, arith, length-take-le}
-use Rattle.error.specs.declared.Refusal.{Refusal}
+use Rattle.std.proofs.Common.{◌≡◌, true, length, sym, ◌∙◌, arith, length-take-le}
 use Rattle.blocks.specs.Block.{summed, versioned}
 use Rattle.saves.specs.Buffer.{framed, sizes, sums, versions}
-use Rattle.saves.specs.Look.{LookedAs}
 use Rattle.saves.proofs.Names.{framed→}
 use Rattle.saves.proofs.Looking.{every_used, look_by}
 use Rattle.saves.proofs.buffer.look.Goals as goal
@@ -31,14 +29,12 @@ pub walk-requires : goal.walk-requires
 walk-requires c =
     let f : framed (length c.args.buffer.now) c.args.used ≡ true = sym c.is_framed.ensures ∙ c.if-not-is_framed.false in
     let p = framed→ (length c.args.buffer.now) c.args.used f in
-    omega (arith, length-take-le c.args.used c.args.buffer.now p.1, p.0, p.1)
+    (omega (arith, length-take-le c.args.used c.args.buffer.now p.1, p.0, p.1), sym c.all_summed.ensures ∙ c.if-not-all_summed.false)
 
 pub returns : goal.returns
 returns c =
     let f : framed (length c.args.buffer.now) c.args.used ≡ true = sym c.is_framed.ensures ∙ c.if-not-is_framed.false in
-    let P : Result (Option ℕ) Refusal → Type 0 = λ r. LookedAs c.args.buffer.now c.args.used c.args.name.now r in
-    subst P (sym c.ok_or.ensures.value)
-    (look_by c.args.buffer.now c.args.used c.args.name.now c.asked_number.result c.asked_number.ensures f
+    look_by c.args.buffer.now c.args.used c.args.name.now c.asked_number.result c.asked_number.ensures f
     (every_used summed c.args.buffer.now c.args.used c.all_summed.result f c.all_summed.ensures ∙ c.if-not-all_summed.false)
     (every_used versioned c.args.buffer.now c.args.used c.all_versioned.result f c.all_versioned.ensures ∙ c.if-not-all_versioned.false)
-    c.walk.result (c.walk.ensures (sym c.all_summed.ensures ∙ c.if-not-all_summed.false)))
+    c.walk.result c.walk.ensures

@@ -1,0 +1,2 @@
+-- What a reading promises.
+pub mod Reading

@@ -1,2 +1,0 @@
--- What the program's reading promises.
-pub mod Reading
