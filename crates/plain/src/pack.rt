@@ -28,17 +28,22 @@ pub(crate) fn told<A: Tell, E: Tell>(
     }
 }
 
-// Of a call that answers no more than the record after it.
+// Of a call that answers no more than the record after it. Not by `told` and a map, by which the record moves once more: a settle that scans
+// nothing took 67 ns for 60.
+#[tactic(auto, unfolding(crossing::specs::Crossing::crossed))]
 pub(crate) fn told_done(called: Result<Breaker, Refusal>, handed: Breaker) -> Answered<Told>
     ensures { (places : List ℕ) → crossing result.answer result.breaker places ≡ crossed (done_by_value called handed places) }
 {
-    told(
-        called.map(|breaker| Answered {
-            answer: (),
+    match called {
+        Ok(breaker) => Answered {
+            answer: ().tell(),
             breaker,
-        }),
-        handed,
-    )
+        },
+        Err(refusal) => Answered {
+            answer: refusal.tell(),
+            breaker: handed,
+        },
+    }
 }
 
 // Of a call by an inner limiter's reply of unknown kind. No function that takes the call as a closure: `acquire_cost` took a tenth longer
