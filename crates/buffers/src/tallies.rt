@@ -1,68 +1,68 @@
 // What the program counts, and how it shows it.
-use crate::calls::Call;
-use std::fmt;
+ghost use Rattle.std.specs.Prelude.{◌≤◌};
 
-// How often a call was told each number of the table.
-#[derive(Clone, Copy, Default)]
-struct Row([u64; 16]);
+use crate::columns as at;
+use crate::world::{COUNTS, TOLD, World};
 
-#[derive(Clone, Copy, Default)]
-pub(crate) struct Tallies {
-    save: Row,
-    restore: Row,
-    reconfigure: Row,
-    check: Row,
-    calls: u64,
-    // the calls that differ, and the line of the first of them
-    differences: u64,
-    first: Option<u64>,
-}
+// From COUNTS on 16 counts for each call, by the number that it was told. Then all calls, those that differ, the line of the first of them,
+// and the lines read.
+const CALLS: usize = COUNTS + 64;
 
-// Counts one more. vectors has it too: a library's function for it would be longer than this.
-fn count(tally: &mut u64) {
-    *tally = tally.saturating_add(1);
-}
+const DIFFER: usize = CALLS + 1;
 
-impl fmt::Display for Row {
-    fn fmt<W: fmt::Write>(&self, f: &mut fmt::Formatter<W>) -> fmt::Result {
-        for tally in self.0 {
-            write!(f, " {tally}")?;
-        }
-        Ok(())
+const FIRST: usize = CALLS + 2;
+
+pub(crate) const LINES: usize = CALLS + 3;
+
+pub(crate) fn tally(w: &mut World, at: usize) {
+    if let Some(count) = w.get_mut(at) {
+        *count = count.wrapping_add(1);
     }
 }
 
-impl Tallies {
-    // Counts a call and the number that it was told.
-    pub(crate) fn count_told(&mut self, call: &Call, number: u32) {
-        let row = match call {
-            Call::Save(_) => &mut self.save,
-            Call::Restore(_) => &mut self.restore,
-            Call::Reconfigure { .. } => &mut self.reconfigure,
-            Call::Check { .. } => &mut self.check,
-        };
-        if let Some(tally) = row.0.get_mut(number as usize) {
-            count(tally);
-        }
-        count(&mut self.calls);
-    }
-
-    // Counts a call that differs, in the line of this number.
-    pub(crate) fn count_difference(&mut self, number: u64) {
-        count(&mut self.differences);
-        self.first = self.first.or(Some(number));
-    }
+// Where the counts of a call begin.
+fn row(kind: u64) -> usize
+    ensures { result ≤ 8296 }
+{
+    COUNTS + (kind % 4 * 16) as usize
 }
 
-impl fmt::Display for Tallies {
-    fn fmt<W: fmt::Write>(&self, f: &mut fmt::Formatter<W>) -> fmt::Result {
-        writeln!(f, "told 0 1 2 3 4 5 6 7 8 9 10 11 12 13 14 15")?;
-        writeln!(f, "save{}", self.save)?;
-        writeln!(f, "restore{}", self.restore)?;
-        writeln!(f, "reconfigure{}", self.reconfigure)?;
-        writeln!(f, "check_block{}", self.check)?;
-        writeln!(f, "calls {}", self.calls)?;
-        writeln!(f, "differ {}", self.differences)?;
-        writeln!(f, "first at line {}", self.first.unwrap_or(0))
+// Counts a call and the number that it was told, which is below 16.
+pub(crate) fn tally_told(w: &mut World, kind: u64) {
+    let number = (w[TOLD] % 16) as usize;
+    tally(w, row(kind) + number);
+    tally(w, CALLS);
+}
+
+// Counts a call that differs.
+pub(crate) fn tally_difference(w: &mut World) {
+    if w[DIFFER] == 0 {
+        w[FIRST] = w[LINES];
     }
+    tally(w, DIFFER);
+}
+
+// A name and counts. (What can't be printed is not told of.)
+fn show(rt: &impl Print, name: &str, counts: &[u64]) {
+    let _ = print!(rt; "{name}");
+    for count in counts {
+        let _ = print!(rt; " {count}");
+    }
+    let _ = println!(rt; "");
+}
+
+pub(crate) fn show_tallies(rt: &impl Print, w: &World) {
+    let _ = println!(rt; "told 0 1 2 3 4 5 6 7 8 9 10 11 12 13 14 15");
+    for (name, kind) in [
+        ("save", at::SAVE),
+        ("restore", at::RESTORE),
+        ("reconfigure", at::RECONFIGURE),
+        ("check_block", at::CHECK),
+    ] {
+        let first = row(kind);
+        show(rt, name, &w[first..first + 16]);
+    }
+    show(rt, "calls", &w[CALLS..DIFFER]);
+    show(rt, "differ", &w[DIFFER..FIRST]);
+    show(rt, "first at line", &w[FIRST..LINES]);
 }

@@ -1,7 +1,7 @@
 // What a program is given, read into a buffer.
 #![tactic(auto)]
 
-ghost use Rattle.std.specs.Prelude.{◌≡◌};
+ghost use Rattle.std.specs.Prelude.{◌≡◌, ◌≤◌, length};
 ghost use Rattle.std.specs.Io.{ReadsAtMost};
 ghost use Rattle.input.specs.Reading.{brought, Came};
 
@@ -32,4 +32,19 @@ pub fn read_input<R: Read>(input: &mut R, buf: &mut [u8]) -> io::Result<usize>
         n += came;
     }
     Ok(n)
+}
+
+// Reads until the buffer is full, the input ends or a read fails, and tells how many bytes came.
+// Ruled out: a count past the buffer; one that counts a byte too many a read.
+pub fn read_full<R: Read>(input: &mut R, buf: &mut [u8]) -> usize
+    ensures { result ≤ length buf.new }
+{
+    let mut full: usize = 0;
+    while full < buf.len() {
+        let Ok(Some(came)) = brought(input.read(&mut buf[full..])) else {
+            return full;
+        };
+        full += came;
+    }
+    full
 }

@@ -1,5 +1,6 @@
 // What a line asks of a breaker and a wait, and the calls of handle that it makes.
 // Matches, no table of functions: each call takes other arguments. The record, its list and the wait are handed on apart, as handle takes them.
+use crate::lent;
 use breaker::{Breaker, Decision, Delay, Ticket};
 use crossing::{Tell, Waited, tell_wait};
 use trip::CircuitBreakerBuilder;
@@ -116,7 +117,11 @@ impl Call {
             Op::RecordManual { success } => {
                 told(handle::record_manual(breaker, list, now_ms, success))
             }
-            Op::Reset => told(handle::reset(breaker, list)),
+            Op::Reset => {
+                let after = lent::reset(*breaker, list);
+                *breaker = after.breaker;
+                told(after.answer)
+            }
             Op::StillAdmits { ticket } => told(handle::still_admits(breaker, list, now_ms, ticket)),
             Op::TryAdmit { inner, capacity } => {
                 told(handle::try_admit(breaker, list, now_ms, inner, capacity))

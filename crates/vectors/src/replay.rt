@@ -1,28 +1,77 @@
 // The lines of the sample, replayed on our breaker and our wait, and compared with what the sample expects.
 use crate::asked::{Asked, Handed, Made, Op, Ours, Turn};
-use crate::lines::{Due, Line, Moved, Step};
-use crate::numbers;
+use crate::lines::{Due, Line, Step};
+use crate::numbers::{self, MOST};
 use crate::tallies::{Tallies, count};
-use anyhow::{Context, Result};
+use crate::want::{HALF, Want};
 use breaker::{Breaker, Shared, Ticket};
 use crossing::{TOLD_UNFINISHED, Waited};
 use error::Refusal;
 use history::PLACES;
-use std::alloc::Global;
 use trip::{CircuitBreakerBuilder, Config};
 use wait::{GRANTED, TURN_WIDTH, ended_wait};
 use waiting::Pending;
 
-#[derive(Drop)]
+#[derive(Clone, Copy)]
 pub(crate) struct Replay {
     ours: Ours,
     places: [u64; PLACES],
-    // what is expected: the settings, and the list in the places
-    config: Config,
-    list: Vec<u64>,
+    want: Want,
     // whether the present line missed something: a flag, since a line is judged in several places, and goes on after each
     missed: bool,
     pub(crate) tallies: Tallies,
+}
+
+// What a call comes to, as numbers: what is told, the settings and the rest of the record. The wait is as it is.
+#[derive(Clone, Copy, PartialEq, Eq)]
+struct Came {
+    told: [u64; 6],
+    settings: [u64; HALF],
+    shared: [u64; HALF],
+    pending: Pending,
+}
+
+fn told_numbers(told: Waited) -> [u64; 6] {
+    let number = told.number.into();
+    [number, told.v1, told.v2, told.v3, told.v4, told.taken]
+}
+
+fn settings_numbers(config: Config) -> [u64; HALF] {
+    [
+        config.kind.into(),
+        config.limit.into(),
+        config.ratio_bits,
+        config.min_calls.into(),
+        config.period_ms,
+        config.cooldown_ms,
+        config.trials.into(),
+        config.required.into(),
+    ]
+}
+
+fn shared_numbers(shared: Shared) -> [u64; HALF] {
+    [
+        shared.state.into(),
+        shared.generation,
+        shared.run.into(),
+        shared.counts.inflight.into(),
+        shared.counts.trait_probes.into(),
+        shared.counts.successes.into(),
+        shared.open_until,
+        shared.len.into(),
+    ]
+}
+
+impl From<Made> for Came {
+    fn from(made: Made) -> Self {
+        let breaker = made.ours.breaker;
+        Came {
+            told: told_numbers(made.told),
+            settings: settings_numbers(breaker.config),
+            shared: shared_numbers(breaker.shared),
+            pending: made.ours.pending,
+        }
+    }
 }
 
 // No wait: one that has ended. (A ticket has no Default: one is only granted.)
@@ -46,15 +95,14 @@ fn alone(number: u32) -> Waited {
 
 impl Replay {
     // Before the first build the settings are zeros, which are not sound.
-    pub(crate) fn new(alloc: Global) -> Self {
+    pub(crate) fn new() -> Self {
         Replay {
             ours: Ours {
                 breaker: Breaker::default(),
                 pending: no_pending(),
             },
             places: [0; PLACES],
-            config: Config::default(),
-            list: Vec::new(alloc),
+            want: Want::new(),
             missed: false,
             tallies: Tallies::default(),
         }
@@ -77,18 +125,12 @@ impl Replay {
         Made { told, ours }
     }
 
-    // Whether the places hold the list that is expected, and zeros behind it.
-    fn holds_list(&self) -> bool {
-        let behind = self.places.strip_prefix(self.list.as_slice());
-        behind.is_some_and(|places| places.iter().all(|place| *place == 0))
-    }
-
     // A miss where a call did not come to what is due, in what it told, the record, the wait or a place. What a wait was told is counted.
-    fn judge(&mut self, asked: Asked, made: Made, due: Made) {
+    fn judge(&mut self, asked: Asked, made: Made, due: Came) {
         if !matches!(asked, Asked::Build(_) | Asked::Call(_)) {
             self.tallies.count_told(made.told.number);
         }
-        if made != due || !self.holds_list() {
+        if Came::from(made) != due || !self.want.holds(&self.places) {
             self.missed = true;
         }
     }
@@ -101,85 +143,63 @@ impl Replay {
             told: alone(number),
             ours: handed.ours,
         };
-        self.judge(handed.asked, made, due);
+        self.judge(handed.asked, made, due.into());
     }
 
     // Makes a line's call, and answers what it was to come to. A line says nothing of the wait.
-    fn answers(&mut self, asked: Asked, due: Due) -> Made {
+    fn answers(&mut self, asked: Asked, due: Due) -> Came {
         let handed = self.handed(asked);
         let made = self.make(handed);
         self.ours = made.ours;
-        let breaker = Breaker {
-            config: self.config,
+        let [number, v1, v2, v3] = due.told;
+        let due = Came {
+            told: [number, v1, v2, v3, 0, 0],
+            settings: self.want.settings(),
             shared: due.shared,
-        };
-        let due = Made {
-            told: due.told,
-            ours: Ours {
-                breaker,
-                ..made.ours
-            },
+            pending: made.ours.pending,
         };
         self.judge(asked, made, due);
         due
     }
 
     // Builds a breaker in the record and the storage that the last one left: all is 0 but the settings.
-    fn build(&mut self, builder: CircuitBreakerBuilder, config: Config) {
+    fn build(&mut self, builder: CircuitBreakerBuilder, settings: [u64; HALF]) {
         self.ours.pending = no_pending();
-        self.config = config;
-        self.list.clear();
+        self.want.build(settings);
         let due = Due {
-            told: alone(0),
-            shared: Shared::default(),
+            told: [0; 4],
+            shared: [0; HALF],
         };
         self.answers(Asked::Build(builder), due);
     }
 
     // Sets the record and the places. Every state of the sample is sound.
-    fn set(&mut self, shared: Shared, items: &[u64]) -> Result<()> {
-        let (list, behind) = self
-            .places
-            .split_at_mut_checked(items.len())
-            .context("a list over its limit")?;
-        list.copy_from_slice(items);
-        behind.fill(0);
+    fn set(&mut self, shared: Shared, items: &[u64]) {
+        self.want.set(items);
+        self.places.copy_from_slice(self.want.places());
         self.ours.breaker.shared = shared;
         self.ours.pending = no_pending();
-        self.list.clear();
-        self.list.extend_from_slice(items)?;
         if !handle::is_sound(&self.ours.breaker, &self.places) {
             self.missed = true;
         }
-        Ok(())
     }
 
-    // The expected list after a call, by the line's popped and pushed alone.
-    fn follow(&mut self, moved: Moved<'_>, len: u32) -> Result<()> {
-        let popped = moved.popped.min(self.list.len());
-        self.list.drain(..popped);
-        self.list.extend_from_slice(moved.pushed)?;
-        if popped != moved.popped || self.list.len() != len as usize {
-            self.missed = true;
-        }
-        Ok(())
-    }
-
-    // A call on the breaker alone. No breaker is asked for a charge, so none refuses it.
-    fn step(&mut self, step: Step<'_>) -> Result<()> {
+    // A call on the breaker alone. No breaker is asked for a charge, so none refuses it. The list moves by the line's popped and pushed alone.
+    fn step(&mut self, step: Step<'_>) {
         let Step { call, due, moved } = step;
         let asked = Asked::Call(call);
         self.tallies.count_call(call.op);
         if !matches!(call.op, Op::Charge { .. }) {
             self.refuse_call(asked);
         }
-        self.follow(moved, due.shared.len)?;
+        if self.want.follow(moved.popped, moved.pushed) != due.len() {
+            self.missed = true;
+        }
         self.answers(asked, due);
-        Ok(())
     }
 
     // A turn as a run: its turns used up; its limit used up; and a second turn, which is refused.
-    fn run(&mut self, before: Ours, turn: Turn, due: Made, ends: bool) {
+    fn run(&mut self, before: Ours, turn: Turn, due: Came, ends: bool) {
         let (one, two) = (TURN_WIDTH, 2 * TURN_WIDTH);
         let refused = Refusal::Turn.number();
         for (numbers, limit, number) in [
@@ -194,9 +214,13 @@ impl Replay {
                 ours: before,
                 places: PLACES,
             });
-            let told = if ends { due.told } else { alone(number) };
-            let told = Waited { taken: 1, ..told };
-            self.judge(asked, made, Made { told, ..due });
+            let mut told = if ends {
+                due.told
+            } else {
+                told_numbers(alone(number))
+            };
+            told[5] = 1;
+            self.judge(asked, made, Came { told, ..due });
         }
     }
 
@@ -204,8 +228,8 @@ impl Replay {
     fn turn(&mut self, turn: Turn, due: Due) {
         self.refuse_turn(turn);
         let before = self.ours;
+        let ends = due.told[0] != 0 || due.told[1] == 0;
         let due = self.answers(Asked::Turn(turn), due);
-        let ends = due.told.number != 0 || due.told.v1 == 0;
         self.run(before, turn, due, ends);
         if ends {
             self.refuse_ended(turn);
@@ -223,19 +247,19 @@ impl Replay {
         self.refuse_ended(granted);
     }
 
-    fn replay_line(&mut self, line: Line<'_>) -> Result<()> {
+    fn replay_line(&mut self, line: Line<'_>) {
         match line {
-            Line::Build(builder, config) => {
+            Line::Build(builder, settings) => {
                 count(&mut self.tallies.builds);
-                self.build(builder, config);
+                self.build(builder, settings);
             }
             Line::State(shared, items) => {
                 count(&mut self.tallies.states);
-                self.set(shared, items)?;
+                self.set(shared, items);
             }
             Line::Step(step) => {
                 count(&mut self.tallies.steps);
-                self.step(step)?;
+                self.step(step);
             }
             Line::Start(start, due) => {
                 count(&mut self.tallies.starts);
@@ -252,17 +276,27 @@ impl Replay {
             }
             Line::Between(step) => {
                 count(&mut self.tallies.calls_between);
-                self.step(step)?;
+                self.step(step);
             }
         }
-        Ok(())
     }
 
-    // Replays a line of text, and says whether it came to what it expects. One that is none of the sample's is an error.
-    pub(crate) fn replay(&mut self, alloc: Global, text: &str) -> Result<bool> {
+    // The call of a line takes away no more items than the list has.
+    fn allows(&self, line: Line<'_>) -> bool {
+        match line {
+            Line::Step(step) | Line::Between(step) => step.moved.popped <= self.want.len(),
+            _ => true,
+        }
+    }
+
+    // Replays a line of text, and says whether it came to what it expects. One that is none of the sample's changes nothing.
+    pub(crate) fn replay(&mut self, text: &[u8]) -> bool {
         self.missed = false;
-        let numbers = numbers::all(alloc, text)?;
-        self.replay_line(numbers.as_slice().try_into()?)?;
-        Ok(!self.missed)
+        let mut room = [0; MOST];
+        match numbers::all(text, &mut room).and_then(|numbers| Line::read(numbers)) {
+            Some(line) if self.allows(line) => self.replay_line(line),
+            _ => self.missed = true,
+        }
+        !self.missed
     }
 }

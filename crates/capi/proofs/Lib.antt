@@ -1,0 +1,2 @@
+-- The types that cross, as `thin` takes them.
+pub mod Types

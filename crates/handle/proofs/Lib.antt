@@ -1,0 +1,2 @@
+-- The types that the proofs of the thin functions name.
+pub mod Types
