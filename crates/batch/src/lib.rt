@@ -3,50 +3,21 @@
 
 ghost use Rattle.std.specs.Prelude.{◌≡◌, true, length};
 ghost use Rattle.error.specs.Told.{nothing};
-ghost use Rattle.breaker.specs.Record.{HalfOpen, settings, sound};
-ghost use Rattle.breaker.specs.Rules as Rules;
+ghost use Rattle.breaker.specs.Record.{HalfOpen, sound};
 ghost use Rattle.breaker.specs.Rules.{done};
 ghost use Rattle.breaker.specs.Calls.{after, done_by_value, kept};
 ghost use Rattle.breaker.specs.Orders.{FinishingOrders, in_turn};
-ghost use Rattle.breaker.specs.Batch.{batch, slices, call_by, calls, numbers, finished_all};
-ghost use Rattle.steps.specs.Steps.{OnHeld};
+ghost use Rattle.breaker.specs.Batch.{batch, slices, calls, numbers, finished_all};
 
 use breaker::{Breaker, CLOSED, Ticket, test};
 use error::Refusal;
 use outcomes::{Recorded, settle_closed, settle_unclosed};
 use steps::{abort_locked, opened, with_history};
 
-// One call: a settle with success or failure by the mark, or an abort through the trait side or not: two flags, as each was lent by C. A settle is
-// as `settle_locked` has it, but in parts, with what is decided put in force here: as one call it would move a record for each of a batch.
-fn finish(
-    b: Breaker,
-    list: &mut [u64],
-    now_ms: u64,
-    ticket: Ticket,
-    settles: bool,
-    mark: bool,
-) -> Result<Breaker, Refusal>
-    ensures { OnHeld b list.old (λ c st. done_by_value result b list.new
-        ≡ kept c (Rules.finish (settings c) now_ms (call_by ticket settles mark) st)) }
-{
-    if !settles {
-        return Ok(abort_locked(b, ticket, mark));
-    }
-    if b.shared.state != CLOSED {
-        return Ok(settle_unclosed(b, list, now_ms, ticket, mark));
-    }
-    if ticket.generation != b.shared.generation {
-        return Ok(b);
-    }
-    Ok(match settle_closed(b, list, now_ms, mark)? {
-        Recorded::Counted(change) => with_history(b, change.run, change.len),
-        Recorded::Tripped(change) => opened(with_history(b, change.run, change.len), now_ms),
-    })
-}
-
-// The calls in turn: each gets what the one before it left. The slices stay apart, since C lends them so. They are read by index: of what is
-// written through the `iter_mut` of a zip nothing is known after the loop, so the answers could not be proved. (A struct of a sound breaker would have to
-// lend the list, so it is asked of the caller.)
+// The calls in turn: each gets what the one before it left. A settle is as `settle_locked` has it, but in parts, and what is decided is put in force
+// here: as one call, or with the record handed in and out of it, it would move a record for each of a batch (docs/PERFORMANCE.md). The slices stay
+// apart, since C lends them so. They are read by index: of what is written through the `iter_mut` of a zip nothing is known after the loop, so the
+// answers could not be proved. (A struct of a sound breaker would have to lend the list, so it is asked of the caller.)
 fn finish_each(
     start: Breaker,
     list: &mut [u64],
@@ -70,12 +41,28 @@ fn finish_each(
         let generation = generations[i];
         let probe = probes[i] != 0;
         let ticket = Ticket { generation, probe };
-        match finish(b, list, now_ms, ticket, settles[i] != 0, marks[i] != 0) {
-            Ok(next) => {
-                b = next;
-                answers[i] = 0;
+        let settle = settles[i] != 0;
+        let mark = marks[i] != 0;
+        if !settle {
+            b = abort_locked(b, ticket, mark);
+            answers[i] = 0;
+        } else if b.shared.state != CLOSED {
+            b = settle_unclosed(b, list, now_ms, ticket, mark);
+            answers[i] = 0;
+        } else if ticket.generation != b.shared.generation {
+            answers[i] = 0;
+        } else {
+            match settle_closed(b, list, now_ms, mark) {
+                Ok(Recorded::Counted(change)) => {
+                    b = with_history(b, change.run, change.len);
+                    answers[i] = 0;
+                }
+                Ok(Recorded::Tripped(change)) => {
+                    b = opened(with_history(b, change.run, change.len), now_ms);
+                    answers[i] = 0;
+                }
+                Err(refusal) => answers[i] = u64::from(refusal.number()),
             }
-            Err(refusal) => answers[i] = u64::from(refusal.number()),
         }
     }
     b

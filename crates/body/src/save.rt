@@ -1,6 +1,6 @@
 // The body of a save: written, judged and read.
 ghost use Rattle.std.specs.Prelude.{◌≡◌, ◌==◌, ◌*◌, ◌&&◌, ltb, length};
-ghost use Rattle.le_bytes.specs.Bytes.{put_items};
+ghost use Rattle.le_bytes.specs.Bytes.{items_at, put_items};
 ghost use Rattle.history.specs.Items.{all_below, are_items, fits, padded};
 ghost use Rattle.body.specs.Save.{BodyRead, body_of, Good, is_name, item_width, put_save, Save, size_of};
 
@@ -97,6 +97,16 @@ pub fn read(s: &[u8]) -> Option<Breaker>
     is_body.then_some(b)
 }
 
+// By constant widths, as `put_list` writes: `item_width` in their place takes four times as long.
+fn get_list(s: &[u8], kind: Items, items: &mut [u64])
+    ensures { items.new ≡ items_at 86 (item_width kind) items.old s.now }
+{
+    match kind {
+        Items::Nothing | Items::Outcomes(_) => items_at(s, RECORD_END, OUTCOME, items),
+        Items::Times => items_at(s, RECORD_END, TIME, items),
+    }
+}
+
 // Puts the list of a save into a storage: every place of it. It cannot fail: callers have read the save, and have a storage.
 // Ruled out: a place of the list before that stays; a time of four bytes.
 pub fn list_in(s: &[u8], b: Breaker, list: &mut [u64])
@@ -105,7 +115,6 @@ pub fn list_in(s: &[u8], b: Breaker, list: &mut [u64])
     let n = b.shared.len as usize;
     if list.len() == PLACES && n <= PLACES {
         list.fill(0);
-        let width = item_width(items_of(b.config));
-        items_at(s, RECORD_END, width, &mut list[..n]);
+        get_list(s, items_of(b.config), &mut list[..n]);
     }
 }

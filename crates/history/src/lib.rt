@@ -119,11 +119,11 @@ fn differences(list: &[u64], first: usize, cutoff: u64) -> u64
     fold_from(list, first, |bits, t| bits | t.wrapping_sub(cutoff))
 }
 
-// How many elements are at least `cutoff`, by a comparison of each.
-fn compared(s: &[u64], cutoff: u64) -> u64
-    ensures { result ≡ recent cutoff s.now % 2 ^ 64 }
+// How many readings from place `first` on are at or after `cutoff`, by a comparison of each.
+fn compared(list: &[u64], first: usize, cutoff: u64) -> u64
+    ensures { result ≡ recent cutoff (drop first list.now) % 2 ^ 64 }
 {
-    in_turn(s, 0, &|n, t| n.wrapping_add(u64::from(cutoff <= t)))
+    fold_from(list, first, |n, t| n.wrapping_add(u64::from(cutoff <= t)))
 }
 
 // How many readings of the list are at or after the cutoff, from place `first` on: mostly all, which needs no comparison.
@@ -136,7 +136,7 @@ pub fn count_recent(list: &[u64], first: u32, len: u32, cutoff: u64) -> u32
     if (differences(times, k, cutoff) | cutoff) >> 63 == 0 {
         return (times.len() - k) as u32;
     }
-    compared(&times[k..], cutoff) as u32
+    compared(times, k, cutoff) as u32
 }
 
 // Moves the n elements from k on down to the front. The compiler makes one move of a loop whose distance it knows, and 1 is the most

@@ -24,12 +24,19 @@ pub fn with_history(mut b: Breaker, run: u32, len: u32) -> Breaker
     b
 }
 
+// The generation after this one.
+fn next_generation(generation: u64) -> u64
+    ensures { result ≡ next generation }
+{
+    generation.wrapping_add(1)
+}
+
 // Ruled out: a generation that stays; one that does not wrap.
 pub fn transition(mut b: Breaker, to: u8, until: u64) -> Breaker
     ensures { Applies (λ c st. moved to until st) b result }
 {
     b.shared.state = to;
-    b.shared.generation = b.shared.generation.wrapping_add(1);
+    b.shared.generation = next_generation(b.shared.generation);
     b.shared.open_until = until;
     b
 }
@@ -57,7 +64,7 @@ pub fn closed(b: Breaker) -> Breaker
 pub fn returned(mut saved: Breaker, present: u64) -> Breaker
     ensures { Applies (λ c st. Rules.returned present st) saved result }
 {
-    saved.shared.generation = present.wrapping_add(1);
+    saved.shared.generation = next_generation(present);
     saved.shared.counts.inflight = 0;
     saved.shared.counts.trait_probes = 0;
     saved
@@ -68,6 +75,6 @@ pub fn returned(mut saved: Breaker, present: u64) -> Breaker
 pub fn renewed(mut b: Breaker, present: u64) -> Breaker
     ensures { Applies (λ c st. in_generation (next present) st) b result }
 {
-    b.shared.generation = present.wrapping_add(1);
+    b.shared.generation = next_generation(present);
     b
 }

@@ -5,4 +5,4 @@ use Rattle.history.proofs.Folds.{sum-folded}
 use Rattle.history.proofs.compared.Goals as goal
 
 pub returns : goal.returns
-returns c = sum-folded _ (ones (λ t. leb c.args.cutoff t)) (λ a x b r. search rules) _ _ c.in_turn.ensures
+returns c = sum-folded _ (ones (λ t. leb c.args.cutoff t)) (λ a x b r. search rules) _ _ c.fold_from.ensures

@@ -8,8 +8,8 @@ pub returns-then-n-le-PLACES : goal.returns-then-n-le-PLACES
 returns-then-n-le-PLACES c =
     λ x g e q l.
     let z : c.fill.new.self ≡ replicate (length c.args.list.now) 0 = search rules in
-    list-read-as x g c.args.b c.args.s.now c.fill.new.self c.items_at.new.out e q (z ∙ ap (λ (n : ℕ). replicate n 0) l)
-    (rw (c.item_width-width.ensures, c.items_of.ensures) at c.items_at.ensures)
+    list-read-as x g c.args.b c.args.s.now c.fill.new.self c.get_list.new.items e q (z ∙ ap (λ (n : ℕ). replicate n 0) l)
+    (rw c.items_of.ensures at c.get_list.ensures)
 
 pub returns-else-list-eq-PLACES : goal.returns-else-list-eq-PLACES
 returns-else-list-eq-PLACES c = λ x g e q l.
