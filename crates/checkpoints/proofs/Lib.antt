@@ -1,3 +1,4 @@
 -- Laws, by the calls that use them.
 pub mod Making
+pub mod OneToOne
 pub mod Orders

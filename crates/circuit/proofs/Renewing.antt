@@ -13,19 +13,19 @@ use Rattle.breaker.specs.Calls.{After, after, done_by_value, fresh, put, built, 
 use Rattle.breaker.proofs.Guard.{guarded-done}
 use Rattle.breaker.proofs.Record.{sound-places}
 
-module _ (builder : CircuitBreakerBuilder) (b : Breaker) (s : List ℕ) (ok : sound b s ≡ true) where
-  -- the storage has its places, so the builder alone decides
-  built_in : built builder b s ≡ put (built_of builder) b s
-  unfolding built
-  built_in = simp (eq-eqb (length s) 4096 (sound-places b s ok))
+-- a build in a storage of 4,096 places: the builder alone decides
+pub built_in : (builder : CircuitBreakerBuilder) (b : Breaker) (s : List ℕ) → length s ≡ 4096 → built builder b s ≡ put (built_of builder) b s
+unfolding built
+built_in builder b s l = simp (eq-eqb (length s) 4096 l)
 
+module _ (builder : CircuitBreakerBuilder) (b : Breaker) (s : List ℕ) (ok : sound b s ≡ true) where
   done : renewed (built_of builder) b s ≡ reconfigured builder b s
   unfolding reconfigured
   done = guarded-done (λ r. after (refused r) b s) _ b s ok
 
   module _ (x : Result Breaker Refusal) (places : List ℕ) (e : done_by_value x b places ≡ built builder b s) where
     pub renew-refused : (r : Refusal) → x ≡ Err r → after (refused r) b places ≡ reconfigured builder b s
-    renew-refused r q = go (built_of builder) (ap (λ (y : Result Breaker Refusal). done_by_value y b places) (sym q) ∙ e ∙ built_in) ∙ done
+    renew-refused r q = go (built_of builder) (ap (λ (y : Result Breaker Refusal). done_by_value y b places) (sym q) ∙ e ∙ built_in builder b s (sound-places b s ok)) ∙ done
       where
         go : (y : Result Config Refusal) → after (refused r) b places ≡ put y b s → after (refused r) b places ≡ renewed y b s
         go (Ok c) p = no-refusal r _ (sym (ap (λ (a : After). a.told) p))
@@ -33,7 +33,7 @@ module _ (builder : CircuitBreakerBuilder) (b : Breaker) (s : List ℕ) (ok : so
 
     pub renew-done : (made m : Breaker) → x ≡ Ok made → ((c : Config) (st : State) → made ≡ stored c st → m ≡ stored c (in_generation (next b.shared.generation) st))
         → after nothing m places ≡ reconfigured builder b s
-    renew-done made m q f = go (built_of builder) (ap (λ (y : Result Breaker Refusal). done_by_value y b places) (sym q) ∙ e ∙ built_in) ∙ done
+    renew-done made m q f = go (built_of builder) (ap (λ (y : Result Breaker Refusal). done_by_value y b places) (sym q) ∙ e ∙ built_in builder b s (sound-places b s ok)) ∙ done
       where
         go : (y : Result Config Refusal) → after nothing made places ≡ put y b s → after nothing m places ≡ renewed y b s
         go (Ok c) p =

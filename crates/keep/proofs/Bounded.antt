@@ -32,7 +32,7 @@ module _ (t : Observed) (ok : turn_in_bounds t ≡ true) where
   checks-kept w b = grind (arith, nat_tests)
 
   -- a fresh grant is within its bounds
-  grant-bounded : (w : Wait) → wait_in_bounds w ≡ true → wait_in_bounds (holding (t.clock + t.duration) t.postponed_before w) ≡ true
+  pub grant-bounded : (w : Wait) → wait_in_bounds w ≡ true → wait_in_bounds (holding (t.clock + t.duration) t.postponed_before w) ≡ true
   unfolding wait_in_bounds turn_in_bounds
   grant-bounded w b = grind (arith, nat_tests)
 

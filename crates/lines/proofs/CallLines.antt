@@ -1,27 +1,44 @@
 -- Laws of a call's line: what is printed is taken again, and what is taken was printed. Assumes nothing.
-use Rattle.std.proofs.Common.{◌≡◌, ℕ, ◌^◌, ◌<◌, true, eqb, List, [], ◌∷◌, ◌++◌, append_assoc, Some, None, inl, inr, refl, sym, ap, subst, eqb-true, length, drop, ◌≤◌}
+use Rattle.std.proofs.Common.{◌≡◌, ℕ, ◌^◌, ◌<◌, Bool, true, false, eqb, List, [], ◌∷◌, ◌++◌, append_assoc, Some, None, inl, inr, refl, sym, ap, subst, eqb-true, length, drop, ◌≤◌, ◌∙◌, arith}
 use Rattle.std.proofs.lemmas.Option.{some_pair_parts}
 use Rattle.std.proofs.lemmas.List.{drop_all}
+use Rattle.error.specs.Choice.{bit}
+use Rattle.error.proofs.Choice.{bit-back}
 use Rattle.breaker.specs.declared.Ticket.{Ticket}
 use Rattle.breaker.specs.Answers.{ticket_values}
 use Rattle.lines.specs.Print.{print_decimal, print_fields, print_call, letter_of, fields_of, AllFit, CallFits}
-use Rattle.lines.specs.Take.{after, take_decimal, take_ticket, with_ticket, take_ticketed, take_order, take_call}
+use Rattle.lines.specs.Take.{◌>>=◌, after, take_decimal, take_ticket, with_ticket, take_ticketed, take_order, take_call}
 use Rattle.lines.specs.Reads.{Read, NoCall, CallRead}
 use Rattle.lines.specs.declared.Call.{Call}
 use Rattle.lines.specs.declared.Order.{Order}
 use Rattle.lines.specs.declared.Order.TheVariants.{Admit, Success, Failure, Abort, Reset}
 use Rattle.lines.proofs.After.{got, bound-back, mapped-back, chosen-back, after-back}
-use Rattle.lines.proofs.Numbers.{stops, number-there, number-back}
-use Rattle.lines.proofs.Fields.{ticket-there, ticket-back}
+use Rattle.lines.proofs.Numbers.{number-there, number-back}
+use Rattle.lines.proofs.Fields.{ticket-back}
+use Rattle.lines.proofs.Limits.{max64, limits_of, print_all, take_all, made_call, closed, rest-there, order-limits}
 
 -- ---- there
-order-there : (o : Order) (rest : List ℕ) → AllFit (fields_of o) → stops rest ≡ true → take_order (letter_of o ∷ (print_fields (fields_of o) ++ rest)) ≡ Some (o, rest)
-unfolding take_order print_fields
-order-there Admit rest f e = refl
-order-there Reset rest f e = refl
-order-there (Success k) rest f e = rw (ticket-there k rest f.0 e)
-order-there (Failure k) rest f e = rw (ticket-there k rest f.0 e)
-order-there (Abort k) rest f e = rw (ticket-there k rest f.0 e)
+abbrev ticket : List ℕ
+ticket = max64 ∷ 1 ∷ []
+
+ticket-there : (g : ℕ) (p : Bool) (rest : List ℕ) → g < 2 ^ 64 → take_all ticket (print_fields (g ∷ bit p ∷ []) ++ (10 ∷ rest)) ≡ Some (g ∷ bit p ∷ [], rest)
+unfolding print_all print_fields
+ticket-there g true rest h = rest-there ticket (g ∷ 1 ∷ []) rest (omega arith, (omega arith, tt))
+ticket-there g false rest h = rest-there ticket (g ∷ 0 ∷ []) rest (omega arith, (omega arith, tt))
+
+-- the fields of an order, its letter before them, by the limits of the letter
+order-there : (t : ℕ) (o : Order) (rest : List ℕ) → AllFit (fields_of o)
+    → (take_order (letter_of o ∷ (print_fields (fields_of o) ++ (10 ∷ rest))) >>= closed t) ≡ Some (record { reading = t; order = o }, rest)
+unfolding limits_of print_all print_fields
+order-there t o rest f = order-limits t (letter_of o) (print_fields (fields_of o) ++ (10 ∷ rest)) ∙ made o f
+  where
+    made : (o : Order) → AllFit (fields_of o)
+        → (take_all (limits_of (letter_of o)) (print_fields (fields_of o) ++ (10 ∷ rest)) >>= made_call t (letter_of o)) ≡ Some (record { reading = t; order = o }, rest)
+    made Admit f = rw (rest-there [] [] rest tt)
+    made Reset f = rw (rest-there [] [] rest tt)
+    made (Success k) f = rw (ticket-there k.generation k.probe rest f.0, bit-back k.probe)
+    made (Failure k) f = rw (ticket-there k.generation k.probe rest f.0, bit-back k.probe)
+    made (Abort k) f = rw (ticket-there k.generation k.probe rest f.0, bit-back k.probe)
 
 -- a call's line with what follows it, as the readers meet it
 line : (c : Call) (rest : List ℕ) → print_call c ++ rest ≡ print_decimal c.reading ++ (32 ∷ letter_of c.order ∷ (print_fields (fields_of c.order) ++ (10 ∷ rest)))
@@ -33,7 +50,7 @@ line c rest =
 call-there : (c : Call) (rest : List ℕ) → CallFits c → take_call (print_call c ++ rest) ≡ Some (c, rest)
 unfolding take_call after
 call-there c rest f =
-    rw (line c rest, number-there c.reading (32 ∷ letter_of c.order ∷ (print_fields (fields_of c.order) ++ (10 ∷ rest))) f.0 refl, order-there c.order (10 ∷ rest) f.1 refl)
+    rw (line c rest, number-there c.reading (32 ∷ letter_of c.order ∷ (print_fields (fields_of c.order) ++ (10 ∷ rest))) f.0 refl) (order-there c.reading c.order rest f.1)
 
 -- ---- back
 -- what stands behind a reading and its space is the order o

@@ -1,59 +1,22 @@
 -- Laws of the fields: what is printed is taken again, and what is taken was printed. Assumes nothing.
-use Rattle.std.proofs.Common.{◌≡◌, ℕ, zero, suc, ◌^◌, ◌≤◌, ◌<◌, Bool, true, false, ltb, leb, eqb, if◌then◌else◌, List, [], ◌∷◌, ◌++◌, append_assoc, Some, None, refl, sym, ap, ◌∙◌, arith, lt-ltb, ltb-true, leb-true}
+use Rattle.std.proofs.Common.{◌≡◌, ℕ, zero, suc, ◌^◌, ◌≤◌, ◌<◌, leb, eqb, List, [], ◌∷◌, ◌++◌, append_assoc, Some, refl, sym, ap, ◌∙◌, arith, leb-true}
 use Rattle.error.specs.Choice.{bit}
 use Rattle.breaker.specs.declared.Ticket.{Ticket}
 use Rattle.breaker.specs.Answers.{ticket_values}
 use Rattle.lines.specs.Print.{print_decimal, print_hex16, print_fields, AllFit}
-use Rattle.lines.specs.Take.{after, take_decimal, take_hex, take_field, take_narrow, take_bits, take_ticket}
+use Rattle.lines.specs.Take.{after, take_decimal, take_hex, take_field, take_bits, take_ticket}
 use Rattle.lines.proofs.After.{bound-back, tested-back, after-back}
-use Rattle.lines.proofs.Numbers.{stops, number-there, number-back, hex16-there, hex16-back}
+use Rattle.lines.proofs.Numbers.{number-back, hex16-there, hex16-back}
 
 -- ---- there
-pub field-there : (v : ℕ) (rest : List ℕ) → v < 2 ^ 64 → stops rest ≡ true → take_field (32 ∷ (print_decimal v ++ rest)) ≡ Some (v, rest)
-unfolding take_field after
-field-there v rest h e = number-there v rest h e
-
-pub narrow-there : (v : ℕ) (rest : List ℕ) → v < 2 ^ 32 → stops rest ≡ true → take_narrow (32 ∷ (print_decimal v ++ rest)) ≡ Some (v, rest)
-unfolding take_narrow
-narrow-there v rest h e = rw (field-there v rest (omega arith) e, lt-ltb v (2 ^ 32) h)
-
 pub bits-there : (v : ℕ) (rest : List ℕ) → v < 2 ^ 64 → take_bits (32 ∷ (print_hex16 v ++ rest)) ≡ Some (v, rest)
 unfolding take_bits after
 bits-there v rest h = hex16-there v rest h
-
--- what follows a field begins with no digit
-stops-rest : (vs rest : List ℕ) → stops rest ≡ true → stops (print_fields vs ++ rest) ≡ true
-unfolding print_fields
-stops-rest [] rest e = e
-stops-rest (v ∷ vs) rest e = refl
-
--- of fields one after another the first is taken, and the rest is there
-pub first-there : (v : ℕ) (vs rest : List ℕ) → v < 2 ^ 64 → stops rest ≡ true → take_field (print_fields (v ∷ vs) ++ rest) ≡ Some (v, print_fields vs ++ rest)
-unfolding print_fields
-first-there v vs rest h e = rw append_assoc (field-there v (print_fields vs ++ rest) h (stops-rest vs rest e))
 
 -- a ticket's fields with what follows them
 pub two-fields : (x y : ℕ) (rest : List ℕ) → print_fields (x ∷ y ∷ []) ++ rest ≡ 32 ∷ (print_decimal x ++ (32 ∷ (print_decimal y ++ rest)))
 unfolding print_fields
 two-fields x y rest = simp append_assoc
-
-pub ticket-there : (k : Ticket) (rest : List ℕ) → k.generation < 2 ^ 64 → stops rest ≡ true → take_ticket (print_fields (ticket_values k) ++ rest) ≡ Some (k, rest)
-unfolding take_ticket print_fields
-ticket-there k rest h e =
-    let g = k.generation in
-    let p = k.probe in
-    rw (first-there g (bit p ∷ []) rest h e, first-there (bit p) [] rest (small p) e) (flag g p)
-  where
-    small : (p : Bool) → bit p < 2 ^ 64
-    small true = omega arith
-    small false = omega arith
-
-    with : ℕ → Bool → Ticket × List ℕ
-    with g p = (record { generation = g; probe = p }, rest)
-
-    flag : (g : ℕ) (p : Bool) → (if leb (bit p) 1 then Some (with g (eqb (bit p) 1)) else None) ≡ Some (with g p)
-    flag g true = refl
-    flag g false = refl
 
 -- ---- back
 pub field_back : (bs : List ℕ) (v : ℕ) (rest : List ℕ) → take_field bs ≡ Some (v, rest) → (v < 2 ^ 64) × (bs ≡ 32 ∷ (print_decimal v ++ rest))
@@ -62,13 +25,6 @@ field_back bs v rest e =
     let a = bound-back (after 32 bs) take_decimal (v, rest) e in
     let n = number-back a.0 v rest a.2 in
     (n.0, cc (after-back 32 bs a.0 a.1, n.1))
-
-pub narrow-back : (bs : List ℕ) (v : ℕ) (rest : List ℕ) → take_narrow bs ≡ Some (v, rest) → (v < 2 ^ 32) × (bs ≡ 32 ∷ (print_decimal v ++ rest))
-unfolding take_narrow
-narrow-back bs v rest e =
-    let a = bound-back (take_field bs) (λ p. if ltb p.0 (2 ^ 32) then Some p else None) (v, rest) e in
-    let t = tested-back (ltb a.0.0 (2 ^ 32)) a.0 (v, rest) a.2 in
-    (ltb-true v (2 ^ 32) (rw t.1 at t.0), (field_back bs v rest (rw t.1 at a.1)).1)
 
 pub bits-back : (bs : List ℕ) (v : ℕ) (rest : List ℕ) → take_bits bs ≡ Some (v, rest) → (v < 2 ^ 64) × (bs ≡ 32 ∷ (print_hex16 v ++ rest))
 unfolding take_bits

@@ -1,111 +1,109 @@
 -- Laws of the header's line: what is printed is taken again, and what is taken was printed. Assumes nothing.
-use Rattle.std.proofs.Common.{◌≡◌, ℕ, ◌^◌, ◌<◌, true, eqb, List, [], ◌∷◌, ◌++◌, append_assoc, Some, None, inl, inr, refl, sym, subst, eqb-true, length, drop, ◌≤◌}
+use Rattle.std.proofs.Common.{◌≡◌, ℕ, ◌^◌, ◌<◌, Bool, true, false, eqb, if◌then◌else◌, List, [], ◌∷◌, ◌++◌, append_assoc, get_or, Some, None, refl, sym, ap, ◌∙◌, subst, eqb-true, length, drop, ◌≤◌, arith}
 use Rattle.std.proofs.lemmas.Option.{some_pair_parts}
 use Rattle.std.proofs.lemmas.List.{drop_all}
-use Rattle.lines.specs.Print.{print_decimal, print_hex16, print_fields, print_policy, print_header, PolicyFits, HeaderFits}
-use Rattle.lines.specs.Take.{after, take_field, take_narrow, take_bits, take_consecutive, take_ratio, take_windowed, take_policy, take_header}
+use Rattle.lines.specs.Print.{print_fields, print_policy, print_header, PolicyFits, HeaderFits}
+use Rattle.lines.specs.Take.{take_policy, take_header}
 use Rattle.lines.specs.Reads.{Read, NoHeader, HeaderRead}
 use Rattle.lines.specs.declared.Header.{Header}
 use Rattle.lines.specs.declared.HeaderPolicy.{HeaderPolicy}
 use Rattle.lines.specs.declared.HeaderPolicy.TheVariants.{Consecutive, Ratio, Windowed}
-use Rattle.lines.proofs.After.{got, bound-back, chosen-back, after-back}
-use Rattle.lines.proofs.Numbers.{stops}
-use Rattle.lines.proofs.Fields.{two-fields, field-there, narrow-there, bits-there, field_back, narrow-back, bits-back}
-
--- ---- fields with what follows them, as the readers meet them
-one-field : (x : ℕ) (rest : List ℕ) → print_fields (x ∷ []) ++ rest ≡ 32 ∷ (print_decimal x ++ rest)
-unfolding print_fields
-one-field x rest = simp append_assoc
-
-three-fields : (x y z : ℕ) (rest : List ℕ) → print_fields (x ∷ y ∷ z ∷ []) ++ rest ≡ 32 ∷ (print_decimal x ++ (32 ∷ (print_decimal y ++ (32 ∷ (print_decimal z ++ rest)))))
-unfolding print_fields
-three-fields x y z rest = simp append_assoc
-
-ratio-fields : (w b m : ℕ) (rest : List ℕ)
-    → (print_fields (w ∷ []) ++ (32 ∷ (print_hex16 b ++ print_fields (m ∷ [])))) ++ rest ≡ 32 ∷ (print_decimal w ++ (32 ∷ (print_hex16 b ++ (32 ∷ (print_decimal m ++ rest)))))
-ratio-fields w b m rest = simp (append_assoc, one-field)
-
-line : (h : Header) (rest : List ℕ)
-    → print_header h ++ rest ≡ print_policy h.policy ++ (32 ∷ (print_decimal h.cooldown_ms ++ (32 ∷ (print_decimal h.trials ++ (32 ∷ (print_decimal h.required ++ (10 ∷ rest)))))))
-unfolding print_header
-line h rest = simp (append_assoc, three-fields h.cooldown_ms h.trials h.required)
+use Rattle.lines.proofs.After.{got, bound-back}
+use Rattle.lines.proofs.Limits.{Within, limits_of, print_all, take_all, made_header, rest-there, rest_back, within-at, within-each, header-limits}
 
 -- ---- there
-policy-there : (p : HeaderPolicy) (rest : List ℕ) → PolicyFits p → stops rest ≡ true → take_policy (print_policy p ++ rest) ≡ Some (p, rest)
-unfolding take_policy print_policy take_consecutive take_ratio take_windowed
-policy-there (Consecutive n) rest f e = rw (one-field n rest, narrow-there n rest f e)
-policy-there (Ratio w b m) rest f e =
-    rw (ratio-fields w b m rest, narrow-there w (32 ∷ (print_hex16 b ++ (32 ∷ (print_decimal m ++ rest)))) f.0 refl, bits-there b (32 ∷ (print_decimal m ++ rest)) f.1, narrow-there m rest f.2 e)
-policy-there (Windowed k p) rest f e = rw (two-fields k p rest, narrow-there k (32 ∷ (print_decimal p ++ rest)) f.0 refl, field-there p rest f.1 e)
+-- a header's letter and values
+abbrev letter : HeaderPolicy → ℕ
+letter (Consecutive n) = 67
+letter (Ratio w b m) = 82
+letter (Windowed k p) = 87
+
+abbrev values : HeaderPolicy → ℕ → ℕ → ℕ → List ℕ
+values (Consecutive n) c t r = n ∷ c ∷ t ∷ r ∷ []
+values (Ratio w b m) c t r = w ∷ b ∷ m ∷ c ∷ t ∷ r ∷ []
+values (Windowed k p) c t r = k ∷ p ∷ c ∷ t ∷ r ∷ []
+
+-- the line is its letter, its fields by the letter's limits and the feed
+by-limits : (p : HeaderPolicy) (c t r : ℕ) (rest : List ℕ)
+    → (print_policy p ++ (print_fields (c ∷ t ∷ r ∷ []) ++ (10 ∷ []))) ++ rest ≡ letter p ∷ (print_all (limits_of (letter p)) (values p c t r) ++ (10 ∷ rest))
+unfolding print_policy print_all print_fields limits_of
+by-limits (Consecutive n) c t r rest = simp append_assoc
+by-limits (Ratio w b m) c t r rest = simp append_assoc
+by-limits (Windowed k p) c t r rest = simp append_assoc
+
+fits-within : (p : HeaderPolicy) (c t r : ℕ) → PolicyFits p → (c < 2 ^ 64) × (t < 2 ^ 32) × (r < 2 ^ 32) → Within (limits_of (letter p)) (values p c t r)
+unfolding limits_of
+fits-within (Consecutive n) c t r f g = (omega arith, (omega arith, (omega arith, (omega arith, tt))))
+fits-within (Ratio w b m) c t r f g = (omega arith, (omega arith, (omega arith, (omega arith, (omega arith, (omega arith, tt))))))
+fits-within (Windowed k p) c t r f g = (omega arith, (omega arith, (omega arith, (omega arith, (omega arith, tt)))))
+
+made-there : (p : HeaderPolicy) (c t r : ℕ) (rest : List ℕ) → made_header (letter p) (values p c t r, rest) ≡ Some (record { policy = p; cooldown_ms = c; trials = t; required = r }, rest)
+made-there (Consecutive n) c t r rest = refl
+made-there (Ratio w b m) c t r rest = refl
+made-there (Windowed k p) c t r rest = refl
 
 header-there : (h : Header) (rest : List ℕ) → HeaderFits h → take_header (print_header h ++ rest) ≡ Some (h, rest)
-unfolding take_header after
+unfolding print_header
 header-there h rest f =
-    let R = 32 ∷ (print_decimal h.required ++ (10 ∷ rest)) in
-    let T = 32 ∷ (print_decimal h.trials ++ R) in
-    rw (line h rest, policy-there h.policy (32 ∷ (print_decimal h.cooldown_ms ++ T)) f.0 refl, field-there h.cooldown_ms T f.1 refl, narrow-there h.trials R f.2 refl, narrow-there h.required (10 ∷ rest) f.3 refl)
+    let k = letter h.policy in
+    let vs = values h.policy h.cooldown_ms h.trials h.required in
+    rw (by-limits h.policy h.cooldown_ms h.trials h.required rest, header-limits k (print_all (limits_of k) vs ++ (10 ∷ rest)), rest-there (limits_of k) vs rest (fits-within h.policy h.cooldown_ms h.trials h.required f.0 (f.1, f.2, f.3)))
+    (made-there h.policy h.cooldown_ms h.trials h.required rest)
 
 -- ---- back
-abbrev Policy : List ℕ → HeaderPolicy → List ℕ → Type 0
-Policy bs p rest = PolicyFits p × (bs ≡ print_policy p ++ rest)
+-- the values that were taken are a header's, and it fits
+abbrev Is : ℕ → List ℕ → Header → Type 0
+Is k vs h = HeaderFits h × (letter h.policy ≡ k) × (values h.policy h.cooldown_ms h.trials h.required ≡ vs)
 
-consecutive-back : (bs : List ℕ) (p : HeaderPolicy) (rest : List ℕ) → take_consecutive bs ≡ Some (p, rest) → Policy (67 ∷ bs) p rest
-unfolding take_consecutive print_policy
-consecutive-back bs p rest e = let n = bound-back (take_narrow bs) _ (p, rest) e in go n.0.0 n.0.1 (narrow-back bs n.0.0 n.0.1 n.1) n.2
+made-back : (k : ℕ) (vs r : List ℕ) (h : Header) (rest : List ℕ) → Within (limits_of k) vs → made_header k (vs, r) ≡ Some (h, rest) → Is k vs h × (r ≡ rest)
+unfolding limits_of
+made-back k vs r h rest w q = go (eqb k 67) (eqb k 82) (eqb k 87) refl refl refl q
   where
-    go : (n : ℕ) (s : List ℕ) → (n < 2 ^ 32) × (bs ≡ 32 ∷ (print_decimal n ++ s)) → got (Consecutive n) s ≡ got p rest → Policy (67 ∷ bs) p rest
-    go n s f g = let q = some_pair_parts (Consecutive n) p s rest g in rw (← q.0, ← q.1) (f.0, rw (one-field n s) (cc (f.1)))
+    V : ℕ → ℕ
+    V i = get_or vs i 0
 
-ratio-back : (bs : List ℕ) (p : HeaderPolicy) (rest : List ℕ) → take_ratio bs ≡ Some (p, rest) → Policy (82 ∷ bs) p rest
-unfolding take_ratio print_policy
-ratio-back bs p rest e =
-    let w = bound-back (take_narrow bs) _ (p, rest) e in
-    let b = bound-back (take_bits w.0.1) _ (p, rest) w.2 in
-    let m = bound-back (take_narrow b.0.1) _ (p, rest) b.2 in
-    go w.0.0 b.0.0 m.0.0 w.0.1 b.0.1 m.0.1 (narrow-back bs w.0.0 w.0.1 w.1) (bits-back w.0.1 b.0.0 b.0.1 b.1) (narrow-back b.0.1 m.0.0 m.0.1 m.1) m.2
-  where
-    go : (w b m : ℕ) (s t u : List ℕ) → (w < 2 ^ 32) × (bs ≡ 32 ∷ (print_decimal w ++ s)) → (b < 2 ^ 64) × (s ≡ 32 ∷ (print_hex16 b ++ t)) → (m < 2 ^ 32) × (t ≡ 32 ∷ (print_decimal m ++ u))
-        → got (Ratio w b m) u ≡ got p rest → Policy (82 ∷ bs) p rest
-    go w b m s t u f h k g = let q = some_pair_parts (Ratio w b m) p u rest g in rw (← q.0, ← q.1) ((f.0, h.0, k.0), rw (ratio-fields w b m u) (cc (f.1, h.1, k.1)))
+    C : Header
+    C = record { policy = Consecutive (V 0); cooldown_ms = V 1; trials = V 2; required = V 3 }
 
-windowed-back : (bs : List ℕ) (p : HeaderPolicy) (rest : List ℕ) → take_windowed bs ≡ Some (p, rest) → Policy (87 ∷ bs) p rest
-unfolding take_windowed print_policy
-windowed-back bs p rest e =
-    let k = bound-back (take_narrow bs) _ (p, rest) e in
-    let t = bound-back (take_field k.0.1) _ (p, rest) k.2 in
-    go k.0.0 t.0.0 k.0.1 t.0.1 (narrow-back bs k.0.0 k.0.1 k.1) (field_back k.0.1 t.0.0 t.0.1 t.1) t.2
-  where
-    go : (k t : ℕ) (s u : List ℕ) → (k < 2 ^ 32) × (bs ≡ 32 ∷ (print_decimal k ++ s)) → (t < 2 ^ 64) × (s ≡ 32 ∷ (print_decimal t ++ u)) → got (Windowed k t) u ≡ got p rest → Policy (87 ∷ bs) p rest
-    go k t s u f h g = let q = some_pair_parts (Windowed k t) p u rest g in rw (← q.0, ← q.1) ((f.0, h.0), rw (two-fields k t u) (cc (f.1, h.1)))
+    R : Header
+    R = record { policy = Ratio (V 0) (V 1) (V 2); cooldown_ms = V 3; trials = V 4; required = V 5 }
 
-policy-back : (bs : List ℕ) (p : HeaderPolicy) (rest : List ℕ) → take_policy bs ≡ Some (p, rest) → Policy bs p rest
-unfolding take_policy
-policy-back [] p rest e = cc
-policy-back (k ∷ bs) p rest e = elim (chosen-back (eqb k 67) _ _ (p, rest) e) [
-  | inl h ↦ rw (eqb-true k 67 h.0) (consecutive-back bs p rest h.1)
-  | inr h ↦ elim (chosen-back (eqb k 82) _ _ (p, rest) h.1) [
-    | inl h ↦ rw (eqb-true k 82 h.0) (ratio-back bs p rest h.1)
-    | inr h ↦ elim (chosen-back (eqb k 87) _ _ (p, rest) h.1) [ inl h ↦ rw (eqb-true k 87 h.0) (windowed-back bs p rest h.1) | inr h ↦ cc (h.1) ]
-  ]
-]
+    W : Header
+    W = record { policy = Windowed (V 0) (V 1); cooldown_ms = V 2; trials = V 3; required = V 4 }
+
+    is : (d : Header) → got d r ≡ got h rest → Is k vs d → Is k vs h × (r ≡ rest)
+    is d q o = let p = some_pair_parts d h r rest q in (subst (λ (x : Header). Is k vs x) p.0 o, p.1)
+
+    go : (x y z : Bool) → eqb k 67 ≡ x → eqb k 82 ≡ y → eqb k 87 ≡ z → (if x then got C r else if y then got R r else if z then got W r else None) ≡ got h rest → Is k vs h × (r ≡ rest)
+    go true y z a b c q =
+        let l = eqb-true k 67 a in
+        let u = rw l at w in
+        let v = within-at (limits_of 67) vs u in
+        is C q ((omega (arith, v 0 (omega arith)), omega (arith, v 1 (omega arith)), omega (arith, v 2 (omega arith)), omega (arith, v 3 (omega arith))), sym l, sym (within-each (limits_of 67) vs u))
+    go false true z a b c q =
+        let l = eqb-true k 82 b in
+        let u = rw l at w in
+        let v = within-at (limits_of 82) vs u in
+        is R q
+        (((omega (arith, v 0 (omega arith)), omega (arith, v 1 (omega arith)), omega (arith, v 2 (omega arith))), omega (arith, v 3 (omega arith)), omega (arith, v 4 (omega arith)), omega (arith, v 5 (omega arith))), sym l, sym (within-each (limits_of 82) vs u))
+    go false false true a b c q =
+        let l = eqb-true k 87 c in
+        let u = rw l at w in
+        let v = within-at (limits_of 87) vs u in
+        is W q
+        (((omega (arith, v 0 (omega arith)), omega (arith, v 1 (omega arith))), omega (arith, v 2 (omega arith)), omega (arith, v 3 (omega arith)), omega (arith, v 4 (omega arith))), sym l, sym (within-each (limits_of 87) vs u))
+    go false false false a b c q = cc
 
 header-back : (bs : List ℕ) (h : Header) (rest : List ℕ) → take_header bs ≡ Some (h, rest) → HeaderFits h × (bs ≡ print_header h ++ rest)
-unfolding take_header
-header-back bs h rest e =
-    let p = bound-back (take_policy bs) _ (h, rest) e in
-    let c = bound-back (take_field p.0.1) _ (h, rest) p.2 in
-    let t = bound-back (take_narrow c.0.1) _ (h, rest) c.2 in
-    let r = bound-back (take_narrow t.0.1) _ (h, rest) t.2 in
-    let n = bound-back (after 10 r.0.1) _ (h, rest) r.2 in
-    whole p.0.0 c.0.0 t.0.0 r.0.0 p.0.1 c.0.1 t.0.1 r.0.1 n.0 (policy-back bs p.0.0 p.0.1 p.1) (field_back p.0.1 c.0.0 c.0.1 c.1) (narrow-back c.0.1 t.0.0 t.0.1 t.1) (narrow-back t.0.1 r.0.0 r.0.1 r.1) (after-back 10 r.0.1 n.0 n.1) n.2
+unfolding take_header take_policy print_header
+header-back [] h rest e = cc
+header-back (k ∷ bs) h rest e = go (bound-back (take_all (limits_of k) bs) (made_header k) (h, rest) (sym (header-limits k bs) ∙ e))
   where
-    whole : (p : HeaderPolicy) (c t r : ℕ) (s u v w left : List ℕ) → Policy bs p s → (c < 2 ^ 64) × (s ≡ 32 ∷ (print_decimal c ++ u)) → (t < 2 ^ 32) × (u ≡ 32 ∷ (print_decimal t ++ v)) → (r < 2 ^ 32) × (v ≡ 32 ∷ (print_decimal r ++ w))
-        → w ≡ 10 ∷ left → got (record { policy = p; cooldown_ms = c; trials = t; required = r }) left ≡ got h rest → HeaderFits h × (bs ≡ print_header h ++ rest)
-    whole p c t r s u v w left f k l m n g =
-        let d : Header = record { policy = p; cooldown_ms = c; trials = t; required = r } in
-        let q = some_pair_parts d h left rest g in
-        let z : HeaderFits d × (bs ≡ print_header d ++ left) = ((f.0, k.0, l.0, m.0), rw (line d left) (cc (f.1, k.1, l.1, m.1, n))) in
-        subst (λ (x : Header). HeaderFits x × (bs ≡ print_header x ++ rest)) q.0 (z.0, rw q.1 at z.1)
+    go : (p : List ℕ × List ℕ) × (take_all (limits_of k) bs ≡ Some p) × (made_header k p ≡ Some (h, rest)) → HeaderFits h × (k ∷ bs ≡ print_header h ++ rest)
+    go ((vs, r), p, q) =
+        let b = rest_back (limits_of k) bs vs r p in
+        let m = made-back k vs r h rest b.0 q in
+        (m.0.0, rw (by-limits h.policy h.cooldown_ms h.trials h.required rest, m.0.1, m.0.2, ← m.1) (ap (λ (t : List ℕ). k ∷ t) b.1))
 
 -- ---- what a reader's answer says of the bytes
 pub header_read : (s : List ℕ) (r : Read Header) → r ≡ take_header s → HeaderRead s r

@@ -115,19 +115,19 @@ below-there m (suc n) rest h e = decimal-there m rest (suc n) (omega arith) h �
 pub number-there : (v : ℕ) (rest : List ℕ) → v < 2 ^ 64 → stops rest ≡ true → take_decimal (print_decimal v ++ rest) ≡ Some (v, rest)
 number-there v rest h e = decimal-64 (print_decimal v ++ rest) ∙ below-there (2 ^ 64) v rest h e
 
--- a number that was taken, with what is left
-abbrev Printed : ℕ → List ℕ → List ℕ → Type 0
-Printed v bs rest = (v < 2 ^ 64) × (bs ≡ print_decimal v ++ rest)
+-- a number below m that was taken, with what is left
+abbrev Printed : ℕ → ℕ → List ℕ → List ℕ → Type 0
+Printed m v bs rest = (v < m) × (bs ≡ print_decimal v ++ rest)
 
-digits-back : (u : ℕ) (bs : List ℕ) (v : ℕ) (rest : List ℕ) → 0 < u → u < 2 ^ 64 → take_digits u bs ≡ Some (v, rest) → Printed v (print_decimal u ++ bs) rest
-unfolding take_digits
-digits-back u [] v rest p l e = let a = some_pair_parts _ _ _ _ e in (omega arith, cc (a.0, a.1))
-digits-back u (b ∷ bs) v rest p l e =
-    go (is_decimal b) (ltb (u * 10 + (b - 48)) (2 ^ 64)) refl refl (λ m q. digits-back (u * 10 + (b - 48)) bs v rest (omega arith) m q) e
+digits-back : (m u : ℕ) (bs : List ℕ) (v : ℕ) (rest : List ℕ) → 0 < u → u < m → digits_below m u bs ≡ Some (v, rest) → Printed m v (print_decimal u ++ bs) rest
+unfolding digits_below
+digits-back m u [] v rest p l e = let a = some_pair_parts _ _ _ _ e in (omega arith, cc (a.0, a.1))
+digits-back m u (b ∷ bs) v rest p l e =
+    go (is_decimal b) (ltb (u * 10 + (b - 48)) m) refl refl (λ k q. digits-back m (u * 10 + (b - 48)) bs v rest (omega arith) k q) e
   where
-    go : (x y : Bool) → is_decimal b ≡ x → ltb (u * 10 + (b - 48)) (2 ^ 64) ≡ y
-        → (u * 10 + (b - 48) < 2 ^ 64 → take_digits (u * 10 + (b - 48)) bs ≡ Some (v, rest) → Printed v (print_decimal (u * 10 + (b - 48)) ++ bs) rest)
-        → (if x then (if y then take_digits (u * 10 + (b - 48)) bs else None) else Some (u, b ∷ bs)) ≡ Some (v, rest) → Printed v (print_decimal u ++ (b ∷ bs)) rest
+    go : (x y : Bool) → is_decimal b ≡ x → ltb (u * 10 + (b - 48)) m ≡ y
+        → (u * 10 + (b - 48) < m → digits_below m (u * 10 + (b - 48)) bs ≡ Some (v, rest) → Printed m v (print_decimal (u * 10 + (b - 48)) ++ bs) rest)
+        → (if x then (if y then digits_below m (u * 10 + (b - 48)) bs else None) else Some (u, b ∷ bs)) ≡ Some (v, rest) → Printed m v (print_decimal u ++ (b ∷ bs)) rest
     go true true r t ih q =
         let w : (48 ≤ b) × (b ≤ 57) = grind (arith, nat_tests) in
         let f : 48 + (b - 48) ≡ b = omega (arith, w) in
@@ -136,23 +136,29 @@ digits-back u (b ∷ bs) v rest p l e =
     go true false r t ih q = cc
     go false y r t ih q = let a = some_pair_parts _ _ _ _ q in (omega arith, cc (a.0, a.1))
 
-pub number-back : (bs : List ℕ) (v : ℕ) (rest : List ℕ) → take_decimal bs ≡ Some (v, rest) → Printed v bs rest
-unfolding take_decimal take_digits
-number-back [] v rest e = cc
-number-back (b ∷ bs) v rest e = go (eqb b 48) (is_decimal b) refl refl e
+pub below-back : (m : ℕ) (bs : List ℕ) (v : ℕ) (rest : List ℕ) → 0 < m → decimal_below m bs ≡ Some (v, rest) → Printed m v bs rest
+unfolding decimal_below digits_below
+below-back m [] v rest l e = cc
+below-back m (b ∷ bs) v rest l e = go (eqb b 48) (is_decimal b) (ltb (0 * 10 + (b - 48)) m) refl refl refl e
   where
-    go : (x y : Bool) → eqb b 48 ≡ x → is_decimal b ≡ y → (if x then Some (0, bs) else if y then take_digits 0 (b ∷ bs) else None) ≡ Some (v, rest) → Printed v (b ∷ bs) rest
-    go true y r t q =
+    go : (x y z : Bool) → eqb b 48 ≡ x → is_decimal b ≡ y → ltb (0 * 10 + (b - 48)) m ≡ z
+        → (if x then Some (0, bs) else if y then (if y then (if z then digits_below m (0 * 10 + (b - 48)) bs else None) else Some (0, b ∷ bs)) else None) ≡ Some (v, rest) → Printed m v (b ∷ bs) rest
+    go true y z r t k q =
         let a = some_pair_parts _ _ _ _ q in
         let w : print_decimal 0 ≡ 48 ∷ [] = print-digit 0 (omega arith) in
         (omega arith, rw (eqb-true b 48 r, ← a.0, w) (cc (a.1)))
-    go false true r t q =
+    go false true true r t k q =
         let w : (49 ≤ b) × (b ≤ 57) = grind (arith, nat_tests) in
         let d : b - 48 < 10 = omega (arith, w) in
         let f : 48 + (b - 48) ≡ b = omega (arith, w) in
-        let i = digits-back (b - 48) bs v rest (omega (arith, w)) (omega arith) (rw (t, lt-ltb (0 * 10 + (b - 48)) (2 ^ 64) (omega arith), zero-add) at q) in
+        let h : b - 48 < m = omega (arith, ltb-true (0 * 10 + (b - 48)) m k) in
+        let i = digits-back m (b - 48) bs v rest (omega (arith, w)) h (rw zero-add at q) in
         (i.0, rw (print-digit (b - 48) d, f) at i.1)
-    go false false r t q = cc
+    go false true false r t k q = cc
+    go false false z r t k q = cc
+
+pub number-back : (bs : List ℕ) (v : ℕ) (rest : List ℕ) → take_decimal bs ≡ Some (v, rest) → Printed (2 ^ 64) v bs rest
+number-back bs v rest e = below-back (2 ^ 64) bs v rest (omega arith) (sym (decimal-64 bs) ∙ e)
 
 -- ---- hexadecimal, there and back
 hex_glyph : (d : ℕ) → d < 16 → hex_digit (glyph d) ≡ Some d

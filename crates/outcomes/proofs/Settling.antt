@@ -27,7 +27,7 @@ at-state b s c st h ok = sym (ap₂ sound h.0 h.1) ∙ ok
 
 -- ---- the list that what is decided leaves
 module _ (s : Settings) (reading : ℕ) (good : Bool) (st : State) where
-  places-decided : (r : Result Recorded Refusal) → Decides s reading good st r → places_after s reading good st r ≡ padded (in_closed s reading good st).after.list
+  pub places-decided : (r : Result Recorded Refusal) → Decides s reading good st r → places_after s reading good st r ≡ padded (in_closed s reading good st).after.list
   places-decided (Err r) d = rw d
   places-decided (Ok (Counted x)) d = rw d.1
   places-decided (Ok (Tripped x)) d = rw d.1

@@ -63,7 +63,7 @@ module _ (n m : List ℕ) (p : is_name n ≡ true) (q : is_name m ≡ true) wher
 
 -- ---- the asked name
 module _ (name n : List ℕ) (q : is_name n ≡ true) where
-  asked_is : is_name name ≡ true → (a : ℕ) → a ≡ number_at 0 8 name → eqb a (number n) ≡ same_bytes name n
+  pub asked_is : is_name name ≡ true → (a : ℕ) → a ≡ number_at 0 8 name → eqb a (number n) ≡ same_bytes name n
   asked_is p a e =
       let l = name-eight name p in
       let d : a ≡ number name = e ∙ sym (number_in 0 8 name (omega arith) (omega arith)) ∙ ap number (take_all 8 name (omega arith)) in
