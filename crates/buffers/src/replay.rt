@@ -73,9 +73,7 @@ fn told_at(kind: u64, name_size: u64) -> usize
 
 // What a call that is told 0 is expected to leave: a save its blocks at the used length, a restore and a reconfigure the record and the list
 // that stand behind the answer, and zeros behind the list. Answers whether the line has just the words for it.
-fn expect_left(w: &mut World, b: &mut Bytes, n: &Line, used: u64, left: usize) -> bool
-    requires { left ≤ 25 }
-{
+fn expect_left(w: &mut World, b: &mut Bytes, n: &Line, used: u64, left: usize) -> bool {
     match n[at::KIND] {
         at::SAVE => {
             let from = DUE.wrapping_add(n[at::USED] as usize);
@@ -83,7 +81,10 @@ fn expect_left(w: &mut World, b: &mut Bytes, n: &Line, used: u64, left: usize) -
         }
         at::CHECK => true,
         _ => {
-            copy(&mut w[WANT + RECORD..WANT + LIST + PLACES], &n[left..]);
+            copy(
+                &mut w[WANT + RECORD..WANT + LIST + PLACES],
+                n.get(left..).unwrap_or(&[]),
+            );
             true
         }
     }

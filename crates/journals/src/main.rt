@@ -37,15 +37,17 @@ fn behind(s: &[u8], stop: u8) -> &[u8]
 }
 
 // The decimal at the front, as far as it stays below 10,000,000.
-fn number(s: &[u8]) -> usize {
-    let digits = s.iter().take_while(|b| b.is_ascii_digit());
-    digits.fold(0, |n: usize, b| {
-        if n < 1_000_000 {
-            n * 10 + usize::from(b.wrapping_sub(b'0'))
-        } else {
-            n
+fn number(s: &[u8]) -> usize
+    ensures { result < 10000000 }
+{
+    let mut n: usize = 0;
+    for b in s {
+        match *b {
+            b @ b'0'..=b'9' if n < 1_000_000 => n = n * 10 + usize::from(b - b'0'),
+            _ => break,
         }
-    })
+    }
+    n
 }
 
 // So many bytes, or as many as there are, and what is left.
